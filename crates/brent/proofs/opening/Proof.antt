@@ -1,0 +1,45 @@
+use Rattle.numerical.specs.TallyLaws.{room}
+use Rattle.searching.specs.StepLaws.{steps}
+use Rattle.brent.specs.Brent.{opening}
+use borrow.Author.Needs.{needs}
+use Rattle.brent.proofs.opening.Statement.{statement}
+use Rattle.brent.proofs.opening.Tie as tie
+
+valued-requires : tie.Need-valued-requires
+valued-requires c κs = search needs
+
+evaluate-requires : tie.Need-evaluate-requires
+evaluate-requires c κs = search needs
+
+enum-known-e : tie.Need-enum-known-e
+enum-known-e c = search needs
+
+enum-told : tie.Need-enum-told
+enum-told c = search needs
+
+ended-requires : tie.Need-ended-requires
+ended-requires c κs = search needs
+
+returns : tie.Need-returns
+unfolding opening
+returns c = λ stop. search steps
+
+first-at-requires : tie.Need-first-at-requires
+first-at-requires c κs = search (needs, room)
+
+returns-2 : tie.Need-returns-2
+unfolding opening
+returns-2 c = λ stop. search (steps, c .first-at .ensures)
+
+pub opening-spec : {M : Type 1} → statement M
+opening-spec =
+    tie.close
+    (tie.spec
+    valued-requires
+    evaluate-requires
+    enum-known-e
+    enum-told
+    ended-requires
+    returns
+    first-at-requires
+    returns-2)

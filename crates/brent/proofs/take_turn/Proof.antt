@@ -1,0 +1,58 @@
+use Rattle.searching.specs.StepLaws.{steps}
+use Rattle.brent.specs.Brent.{turnFrom}
+use borrow.Author.Needs.{needs}
+use Rattle.brent.proofs.take_turn.Statement.{statement}
+use Rattle.brent.proofs.take_turn.Tie as tie
+
+found-requires : tie.Need-found-requires
+found-requires c κs = search needs
+
+ended-requires : tie.Need-ended-requires
+ended-requires c κs = search needs
+
+returns : tie.Need-returns
+unfolding turnFrom
+returns c = search steps
+
+found-requires-2 : tie.Need-found-requires-2
+found-requires-2 c κs = search needs
+
+ended-requires-2 : tie.Need-ended-requires-2
+ended-requires-2 c κs = search needs
+
+returns-2 : tie.Need-returns-2
+unfolding turnFrom
+returns-2 c = search steps
+
+converged-requires : tie.Need-converged-requires
+converged-requires c κs = search needs
+
+ended-requires-3 : tie.Need-ended-requires-3
+ended-requires-3 c κs = search needs
+
+returns-3 : tie.Need-returns-3
+unfolding turnFrom
+returns-3 c = search steps
+
+step-from-requires : tie.Need-step-from-requires
+step-from-requires c κs = search needs
+
+returns-4 : tie.Need-returns-4
+unfolding turnFrom
+returns-4 c = search steps
+
+pub take-turn-spec : {M : Type 1} → statement M
+take-turn-spec =
+    tie.close
+    (tie.spec
+    found-requires
+    ended-requires
+    returns
+    found-requires-2
+    ended-requires-2
+    returns-2
+    converged-requires
+    ended-requires-3
+    returns-3
+    step-from-requires
+    returns-4)

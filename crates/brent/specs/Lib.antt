@@ -1,0 +1,4 @@
+-- What the contracts of `brent` cite, and what the laws of searches give for it.
+pub mod Brent
+pub mod BrentLaws
+pub mod BrentKeeps

@@ -1,0 +1,131 @@
+// Doubles: which are finite, their size, signs and order, and a point pulled into a pair.
+ghost use mathlib.Core.Path.{_≡_};
+ghost use lib.Ieee.Scale.{finite};
+ghost use Rattle.doubles.specs.Doubles.{absolute, above, below, sameSign, oppositeSign, orderOf, ofOrder, clamp, beyond, pulled, outside};
+
+// Whether x is a number and its eleven exponent bits are not all ones.
+pub fn is_finite(x: f64) -> bool
+    ensures { λ r. ⌜ r ≡ finite x ⌝ }
+{
+    if x != x {
+        return false;
+    }
+    f64::to_bits(x) >> 52 & 2047 != 2047
+}
+
+// The size of x.
+pub fn abs(x: f64) -> f64
+    ensures { λ r. ⌜ r ≡ absolute x ⌝ }
+{
+    if x < 0.0 { -x } else { x }
+}
+
+pub fn is_above(x: f64) -> bool
+    ensures { λ r. ⌜ r ≡ above x ⌝ }
+{
+    x > 0.0
+}
+
+pub fn is_below(x: f64) -> bool
+    ensures { λ r. ⌜ r ≡ below x ⌝ }
+{
+    x < 0.0
+}
+
+// Whether both are above zero, or both below.
+pub fn same_sign(a: f64, b: f64) -> bool
+    ensures { λ r. ⌜ r ≡ sameSign a b ⌝ }
+{
+    if a > 0.0 {
+        b > 0.0
+    } else if a < 0.0 {
+        b < 0.0
+    } else {
+        false
+    }
+}
+
+// Whether one is above zero and the other below.
+pub fn opposite_sign(a: f64, b: f64) -> bool
+    ensures { λ r. ⌜ r ≡ oppositeSign a b ⌝ }
+{
+    if a > 0.0 {
+        b < 0.0
+    } else if a < 0.0 {
+        b > 0.0
+    } else {
+        false
+    }
+}
+
+// The order number: the low 63 bits, negated if the sign bit is set; 0 for a NaN.
+pub fn order_of(x: f64) -> i64
+    ensures { λ r. ⌜ r ≡ orderOf x ⌝ }
+{
+    if x != x {
+        return 0;
+    }
+    let bits = f64::to_bits(x);
+    let size = (bits & 0x7fff_ffff_ffff_ffff) as i64;
+    if bits >> 63 == 1 { -size } else { size }
+}
+
+// The finite double with the order number k, and a NaN where there is none.
+pub fn of_order(k: i64) -> f64
+    ensures { λ r. ⌜ r ≡ ofOrder k ⌝ }
+{
+    if k <= -0x7ff0_0000_0000_0000 {
+        return 0.0 / 0.0;
+    }
+    if k >= 0x7ff0_0000_0000_0000 {
+        return 0.0 / 0.0;
+    }
+    if k < 0 {
+        let size = (0 - k) as u64;
+        f64::from_bits(0x8000_0000_0000_0000 + size)
+    } else {
+        f64::from_bits(k as u64)
+    }
+}
+
+// x, or the nearer end where x lies outside of low to high.
+fn clamp(low: f64, high: f64, x: f64) -> f64
+    ensures { λ r. ⌜ r ≡ clamp low high x ⌝ }
+{
+    if x < low {
+        low
+    } else if high < x {
+        high
+    } else {
+        x
+    }
+}
+
+// Whether x lies outside of low to high.
+fn is_beyond(low: f64, high: f64, x: f64) -> bool
+    ensures { λ r. ⌜ r ≡ beyond low high x ⌝ }
+{
+    if x < low { true } else { high < x }
+}
+
+// x, or the nearer end where x lies outside of the pair u, v, in either order.
+pub fn pulled(u: f64, v: f64, x: f64) -> f64
+    ensures { λ r. ⌜ r ≡ pulled u v x ⌝ }
+{
+    if u <= v {
+        clamp(u, v, x)
+    } else {
+        clamp(v, u, x)
+    }
+}
+
+// Whether x lies outside of the pair u, v, in either order.
+pub fn is_outside(u: f64, v: f64, x: f64) -> bool
+    ensures { λ r. ⌜ r ≡ outside u v x ⌝ }
+{
+    if u <= v {
+        is_beyond(u, v, x)
+    } else {
+        is_beyond(v, u, x)
+    }
+}

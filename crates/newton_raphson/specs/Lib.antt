@@ -1,0 +1,6 @@
+-- What the contracts of `newton_raphson` cite, and what the laws of searches give for it.
+pub mod NewtonRaphson
+pub mod NewtonRaphsonLaws
+pub mod NewtonRaphsonKeeps
+-- the nudge never gives 9
+pub mod Nudge

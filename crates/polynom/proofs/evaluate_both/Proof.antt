@@ -1,0 +1,17 @@
+use Rattle.polynom.specs.Polynom.{evaluatedBoth}
+use borrow.Author.Needs.{needs}
+use Rattle.polynom.proofs.evaluate_both.Statement.{statement}
+use Rattle.polynom.proofs.evaluate_both.Tie as tie
+
+value-and-derivative-requires : tie.Need-value-and-derivative-requires
+value-and-derivative-requires c κs = search needs
+
+kept-both-requires : tie.Need-kept-both-requires
+kept-both-requires c κs = search needs
+
+returns : tie.Need-returns
+unfolding evaluatedBoth
+returns c = rw (← c .before .value-and-derivative .ensures) (c .kept-both .ensures)
+
+pub evaluate-both-spec : {M : Type 1} → statement M
+evaluate-both-spec = tie.close (tie.spec value-and-derivative-requires kept-both-requires returns)

@@ -1,0 +1,58 @@
+-- `polynom::value` meets its contract. The loop's invariant: result and xn are those of the coefficients passed, from i on. Assumes nothing.
+use mathlib.Core.Path.{_≡_}
+use Prim.Native.Nat.{_≤_}
+use native.Mathlib.Omega.{arith}
+use borrow.Author.Needs.{needs}
+use lib.ListN.{length, drop}
+use Rattle.polynom.specs.Polynom.{sums, value}
+use Rattle.polynom.specs.Terms.{sums-none, sums-more}
+use Rattle.polynom.proofs.value.Statement.{statement}
+use Rattle.polynom.proofs.value.Tie as tie
+
+abbrev Inv-loop : tie.InvT-loop
+Inv-loop a x result₀ xn₀ i₀ result xn i = (i ≤ length a) × (sums (drop i a) x ≡ record { result = result; xn = xn })
+
+abbrev μ-loop : tie.MeasureT-loop
+μ-loop a x result₀ xn₀ i₀ result xn i = i
+
+loop-holds : tie.Need-loop-holds Inv-loop μ-loop
+loop-holds c = (search needs, sums-none (c .args .a .now) (c .args .x))
+
+sub-i : tie.Need-sub-i Inv-loop μ-loop
+sub-i c = search needs
+
+mul-result : tie.Need-mul-result Inv-loop μ-loop
+mul-result c = omega arith
+
+shared-slice-read-result : tie.Need-shared-slice-read-result Inv-loop μ-loop
+shared-slice-read-result c = omega arith
+
+loop-less : tie.Need-loop-less Inv-loop μ-loop
+loop-less c = omega arith
+
+loop-again : tie.Need-loop-again Inv-loop μ-loop
+loop-again c =
+    let t = c .before .before in
+    (omega arith, sums-more (t .before .args .a .now) (t .before .args .x) (t .loop .i) _ (omega arith) (omega arith) (t .loop .inv .1))
+
+returns : tie.Need-returns Inv-loop μ-loop
+unfolding value
+returns c =
+    let t = c .before in
+    let z : t .loop .i ≡ 0 = omega arith in
+    let e : sums (t .before .args .a .now) (t .before .args .x) ≡ record { result = t .loop .result; xn = t .loop .xn } = rw z at (t .loop .inv .1) in
+    rw e
+
+pub value-spec : {M : Type 1} → statement M
+value-spec =
+    tie.close
+    (tie.spec
+    Inv-loop
+    μ-loop
+    loop-holds
+    sub-i
+    mul-result
+    shared-slice-read-result
+    loop-less
+    loop-again
+    returns)

@@ -1,0 +1,19 @@
+use Rattle.numerical.specs.Choices.{choices}
+use Rattle.polynom_search.specs.PolynomSearch.{replacedOf}
+use borrow.Author.Needs.{needs}
+use Rattle.polynom_search.proofs.replaced.Statement.{statement}
+use Rattle.polynom_search.proofs.replaced.Tie as tie
+
+same-sign-requires : tie.Need-same-sign-requires
+same-sign-requires c κs = search needs
+
+returns : tie.Need-returns
+unfolding replacedOf
+returns c = search choices
+
+returns-2 : tie.Need-returns-2
+unfolding replacedOf
+returns-2 c = search choices
+
+pub replaced-spec : {M : Type 1} → statement M
+replaced-spec = tie.close (tie.spec same-sign-requires returns returns-2)

@@ -1,0 +1,88 @@
+-- The laws of searches at work: the loop's shape, the bounds, and the count.
+use Prim.Native.Nat.{ℕ, _+_, _*_, _≤_}
+use native.Mathlib.Omega.{arith}
+use native.Mathlib.Nat.{le-refl}
+use mathlib.Core.List.{List}
+use mathlib.Core.Path.{_≡_, refl}
+use lib.Ieee.{Float}
+use Rattle.numerical.specs.declared.Interval.{Interval}
+use Rattle.numerical.specs.declared.Sample.{Sample}
+use Rattle.simple_convergency.specs.Stop.{turnsOf}
+use Rattle.simple_convergency.specs.declared.StopRule.{StopRule}
+use Rattle.searching.specs.Programs.{oracle}
+use Rattle.searching.specs.Histories.{history}
+use Rattle.searching.specs.ProgramLaws.{tallies-are-counts, counted}
+use Rattle.searching.specs.Bounds.{Within, More, within-done, within-test, within-stops, within-ruled, within-pulled, within-value, within-both, within-offered, within-bracketed, within-narrows, within-less, within-searches, answer-within}
+use Rattle.searching.specs.LoopLaws.{Method, Shown, shown-end, shown-go, viewed-once}
+use Rattle.numerical.specs.Tallies.{fresh}
+use Rattle.polynom_search.specs.PolynomSearch.{secondAt, firstAt, ordered, opening, chosen, closer, atMiddle, stepAt, widthAt, pulledIn, atMiddleOf, turnFrom, polynomProgram, polynomSearch, viewed}
+use Rattle.polynom_search.specs.declared.Turn.{Turn}
+use Rattle.polynom_search.specs.declared.Turn.the-variants.{Ended, Next}
+
+pub within-opening : (stop : StopRule) (a b : Float) → Within 2 0 0 (opening stop a b)
+unfolding opening ordered firstAt secondAt
+within-opening stop a b = within-test _ (both b a) (both a b)
+  where
+    both : (x y : Float) → Within 2 0 0 (ordered stop x y)
+    both x y = within-value x (λ p. within-value y (λ q. within-bracketed stop p q _))
+
+within-chosen : {v d : ℕ} (i : Interval) (p : Sample) → Within v d 1 (chosen i p)
+unfolding chosen
+within-chosen i p = within-ruled _ _ (within-narrows _ _)
+
+within-step : (i : Interval) (x : Float) → Within 2 1 1 (stepAt i x)
+unfolding stepAt atMiddle closer
+within-step i x =
+    within-both x (λ v. within-test _ (within-value _ (λ p. within-test _ (within-chosen i p) (within-chosen i (v .value)))) (within-chosen i (v .value)))
+
+pub within-turn : (stop : StopRule) (i : Interval) → Within 2 1 1 (turnFrom stop i)
+unfolding turnFrom atMiddleOf pulledIn widthAt
+within-turn stop i =
+    within-stops stop _ within-done
+    (within-stops stop _ within-done
+    (within-stops stop _
+    (within-offered _ (λ x. within-pulled _ _ x (λ y. within-done)))
+    (within-offered _ (λ x. within-pulled _ _ x (within-step i)))))
+
+-- the method, for the laws of loops
+abbrev pub method : StopRule → Float → Float → Method Interval Turn
+method stop a b =
+    record {
+      opening = opening stop a b;
+      turns = λ r. turnsOf stop;
+      turn = turnFrom stop;
+      view = viewed;
+      end = Ended;
+      go = Next;
+      view-end = λ o. refl;
+      view-go = λ i p. refl;
+      opening-small = within-less (within-opening stop a b) (omega arith) (omega arith) (omega arith);
+      turn-small = λ i. within-less (within-turn stop i) (omega arith) (omega arith) (omega arith);
+    }
+
+module _ (cs : List Float) (stop : StopRule) (a b : Float) where
+  -- the tallies and the mark reported are those of the history
+  pub polynom-search-counts : polynomSearch cs stop a b .progress ≡ counted (history (oracle cs) (polynomProgram stop a b))
+  unfolding polynomSearch
+  polynom-search-counts = tallies-are-counts cs _
+
+  polynom-search-more : More (2 + turnsOf stop * 2) (0 + turnsOf stop * 1) (0 + turnsOf stop * 1) fresh (polynomSearch cs stop a b .progress)
+  unfolding polynomSearch polynomProgram
+  polynom-search-more =
+      answer-within cs (within-searches 2 0 0 2 1 1 (turnsOf stop) (within-opening stop a b) (λ r. le-refl (turnsOf stop)) (within-turn stop))
+
+  -- "Values at most 2 + 2m, derivatives at most m"
+  pub polynom-search-values : polynomSearch cs stop a b .progress .tally .values .0 ≤ 2 + 2 * turnsOf stop
+  polynom-search-values = let h = polynom-search-more .values in omega arith
+
+  pub polynom-search-derivatives : polynomSearch cs stop a b .progress .tally .derivatives .0 ≤ turnsOf stop
+  polynom-search-derivatives = let h = polynom-search-more .derivatives in omega arith
+
+-- a turn is what its view says: the contracts by views determine their results
+module _ (stop : StopRule) (a b : Float) where
+  shown : (t : Turn) → Shown (method stop a b) t
+  shown (Ended o) = shown-end o refl
+  shown (Next i p) = shown-go i p refl
+
+  pub turn-once : (x y : Turn) → viewed x ≡ viewed y → x ≡ y
+  turn-once = viewed-once (method stop a b) shown

@@ -1,0 +1,179 @@
+-- W1 to W13 of document 01, and its limits, as one statement each over a list of calls with their answers.
+use Prim.Native.Nat.{ℕ, zero, suc, _+_}
+use mathlib.Core.Bool.{Bool, true, false, cond, _&&_}
+use mathlib.Core.List.{List, [], _∷_}
+use mathlib.Core.Path.{_≡_, refl}
+use lib.Dec.{eqb, leb, ltb}
+use lib.ListN.{length}
+use lib.Ieee.{Float, binary64, ofBits, toBits, lt, le, eq, ne, neg, sub, add, mul, div}
+use lib.Ieee.Scale.{finite}
+use Rattle.doubles.specs.Doubles.{absolute, sameSign, oppositeSign, outside, pulled}
+use Rattle.numerical.specs.Answers.{kindOf, numbersOf}
+use Rattle.numerical.specs.Tallies.{markAfter}
+use Rattle.numerical.specs.Middle.{atLeast, atMost, crosses, middleOf}
+use Rattle.numerical.specs.declared.Outcome.{Outcome}
+use Rattle.numerical.specs.declared.Progress.{Progress}
+use Rattle.simple_convergency.specs.Stop.{badEps, checkedOf, foundAt, convergedAt}
+use Rattle.polynom.specs.Polynom.{sums, value, sumsBoth, valueAndDerivative, evaluated, evaluatedBoth}
+use Rattle.searching.specs.Programs.{bind, test, stops, sampled, sampledBoth, valueAt, bothAt, offered, pulledInto, productDeparts, bracketed, stepsTo, narrowsTo, run, searches, play, answerOf}
+use Rattle.brent.specs.Brent as br
+use Rattle.regula_falsi.specs.RegulaFalsi as rf
+use Rattle.secant.specs.Secant as sec
+use Rattle.newton_raphson.specs.NewtonRaphson as nr
+use Rattle.polynom_search.specs.PolynomSearch as ps
+use Rattle.roots.specs.Calls.{badCount, allFinite, answer}
+use Rattle.roots.specs.declared.Method.{Method}
+use Rattle.roots.specs.declared.Method.the-variants.{Brent, RegulaFalsi, Secant, NewtonRaphson, Polynom}
+
+-- a call, its doubles given by their bits, and everything that its answer carries
+pub record Case : Type 0 where
+  pub coefficients : List ℕ
+  pub method : Method
+  pub eps : ℕ
+  pub limit : ℕ
+  pub kind : ℕ
+  pub numbers : List ℕ
+  pub steps : ℕ
+  pub values : ℕ
+  pub derivatives : ℕ
+  pub mark : ℕ
+
+abbrev pub double : ℕ → Float
+double bits = ofBits binary64 bits
+
+unfoldable pub doubles : List ℕ → List Float
+doubles [] = []
+doubles (n ∷ rest) = double n ∷ doubles rest
+
+unfoldable pub sameBits : List ℕ → List Float → Bool
+sameBits [] [] = true
+sameBits [] (y ∷ ys) = false
+sameBits (n ∷ ns) [] = false
+sameBits (n ∷ ns) (y ∷ ys) = cond (eqb n (toBits binary64 y)) (sameBits ns ys) false
+
+-- whether an outcome is the one that the case gives
+unfoldable pub agrees : Case → Outcome → Bool
+agrees c o =
+    eqb (kindOf (o .answer)) (c .kind)
+    && (sameBits (c .numbers) (numbersOf (o .answer))
+    && (eqb (o .progress .tally .steps .0) (c .steps)
+    && (eqb (o .progress .tally .values .0) (c .values)
+    && (eqb (o .progress .tally .derivatives .0) (c .derivatives)
+    && eqb (o .progress .mark) (c .mark)))))
+
+unfoldable pub holds : Case → Bool
+holds c = agrees c (answer (doubles (c .coefficients)) (c .method) (double (c .eps)) (c .limit))
+
+unfoldable pub allHold : List Case → Bool
+allHold [] = true
+allHold (c ∷ rest) = cond (holds c) (allHold rest) false
+
+-- ---- the numbers of the table
+
+abbrev pub d0 : ℕ
+d0 = 0
+
+abbrev pub d1 : ℕ
+d1 = 0x3ff0_0000_0000_0000
+
+abbrev pub d2 : ℕ
+d2 = 0x4000_0000_0000_0000
+
+abbrev pub d4 : ℕ
+d4 = 0x4010_0000_0000_0000
+
+abbrev pub d100 : ℕ
+d100 = 0x4059_0000_0000_0000
+
+abbrev pub minus1 : ℕ
+minus1 = 0xbff0_0000_0000_0000
+
+abbrev pub minus2 : ℕ
+minus2 = 0xc000_0000_0000_0000
+
+abbrev pub minus150 : ℕ
+minus150 = 0xc062_c000_0000_0000
+
+abbrev pub part64 : ℕ
+part64 = 0x3f90_0000_0000_0000
+
+abbrev pub part1024 : ℕ
+part1024 = 0x3f50_0000_0000_0000
+
+abbrev pub part4096 : ℕ
+part4096 = 0x3f30_0000_0000_0000
+
+-- the double nearest 300/204
+abbrev pub nearest300by204 : ℕ
+nearest300by204 = 0x3ff7_8787_8787_8788
+
+-- a refusal, and the two acceptances; the mark is 0 in all of them
+abbrev pub refused : List ℕ → Method → ℕ → ℕ → ℕ → ℕ → ℕ → ℕ → Case
+refused a m eps limit number steps values derivatives =
+    record { coefficients = a; method = m; eps = eps; limit = limit; kind = 10 + number; numbers = []; steps = steps; values = values; derivatives = derivatives; mark = 0 }
+
+abbrev pub accepted : List ℕ → Method → ℕ → ℕ → ℕ → List ℕ → ℕ → ℕ → ℕ → Case
+accepted a m eps limit kind numbers steps values derivatives =
+    record { coefficients = a; method = m; eps = eps; limit = limit; kind = kind; numbers = numbers; steps = steps; values = values; derivatives = derivatives; mark = 0 }
+
+-- ---- "W1 to W13 are proved as one statement about the definitions over the list"
+
+unfoldable pub cases : List Case
+cases =
+    -- W1 to W5: 8
+    refused (d0 ∷ minus2 ∷ []) (Brent (double d0) (double d2)) part1024 1 8 1 4 0
+    ∷ refused (d0 ∷ minus2 ∷ []) (RegulaFalsi (double d0) (double d2)) part1024 1 8 1 3 0
+    ∷ refused (d0 ∷ minus2 ∷ []) (Secant (double d0) (double d2)) part1024 1 8 1 3 0
+    ∷ refused (d0 ∷ minus2 ∷ []) (NewtonRaphson (double d0)) part1024 1 8 2 2 2
+    ∷ refused (d0 ∷ minus2 ∷ []) (Polynom (double d0) (double d2)) part1024 1 8 1 4 1
+    -- W6: by value, root 1
+    ∷ accepted (d0 ∷ minus1 ∷ []) (RegulaFalsi (double d0) (double d1)) part1024 1 0 (d1 ∷ d0 ∷ []) 0 2 0
+    -- W7 and W8: the last sample is not tested at the limit
+    ∷ refused (minus1 ∷ []) (Brent (double d0) (double d2)) part1024 1 8 1 4 0
+    ∷ accepted (minus1 ∷ []) (Brent (double d0) (double d2)) part1024 2 0 (d1 ∷ d0 ∷ []) 1 4 0
+    -- W9 and W10: by width
+    ∷ accepted (d100 ∷ minus150 ∷ []) (Brent (double d0) (double d2)) d4 10 1 (d0 ∷ d0 ∷ d2 ∷ []) 0 2 0
+    ∷ accepted (d100 ∷ minus150 ∷ []) (RegulaFalsi (double d0) (double d2)) d4 10 1 (nearest300by204 ∷ d0 ∷ d2 ∷ []) 0 2 0
+    -- W11: 7
+    ∷ refused (d0 ∷ d1 ∷ []) (NewtonRaphson (double d0)) part1024 5 7 2 3 3
+    -- W12: by value, root 1/64; W13: 6
+    ∷ accepted (d0 ∷ d0 ∷ []) (RegulaFalsi (double part64) (double d1)) part1024 9 0 (part64 ∷ part4096 ∷ []) 0 1 0
+    ∷ refused (d0 ∷ d0 ∷ []) (Brent (double part64) (double d1)) part1024 9 6 0 2 0
+    ∷ []
+
+-- every call of the list gets exactly the answer of the table
+pub cases-hold : allHold cases ≡ true
+unfolding allHold cases holds agrees doubles sameBits answer badCount allFinite checkedOf badEps foundAt convergedAt absolute sameSign oppositeSign outside pulled atLeast atMost crosses middleOf markAfter sums value sumsBoth valueAndDerivative evaluated evaluatedBoth bind test stops sampled sampledBoth valueAt bothAt offered pulledInto productDeparts bracketed stepsTo narrowsTo run searches play answerOf br.arrange br.startOf br.opened br.secondAt br.firstAt br.opening br.inverseQuadratic br.chord br.threeValues br.guessOf br.beyondQuarter br.tooSlow br.stalls br.bisects br.usedOf br.nextOf br.keptA br.keptB br.stepDeparts br.arrived br.landed br.pulledIn br.stepWith br.stepFrom br.turnFrom br.brentProgram br.brent rf.secondAt rf.firstAt rf.ordered rf.opening rf.candidateOf rf.replacedOf rf.departs rf.arrived rf.landed rf.pulledIn rf.turnFrom rf.illinoisProgram rf.regulaFalsi sec.secondAt sec.firstAt sec.opening sec.candidateOf sec.arrived sec.landed sec.turnFrom sec.secantProgram sec.secant nr.newtonPoint nr.landed nr.onward nr.laterAt nr.turnFrom nr.nudgedTo nr.nudge nr.firstAt nr.opening nr.newtonProgram nr.newtonRaphson ps.secondAt ps.firstAt ps.ordered ps.opening ps.replacedOf ps.chosen ps.closer ps.newtonPoint ps.inPair ps.usable ps.atMiddle ps.stepAt ps.widthAt ps.pulledIn ps.atMiddleOf ps.turnFrom ps.polynomProgram ps.polynomSearch lt le eq ne neg sub add mul div ofBits toBits
+cases-hold = refl
+
+-- ---- "Limits: 16 coefficients pass, 17 get 1; eps 2^-300 passes, its half gets 4; limit 400 passes, 401 gets 5"
+
+abbrev pub noughts : ℕ → List ℕ
+noughts zero = []
+noughts (suc n) = d0 ∷ noughts n
+
+abbrev pub fromNought : Method
+fromNought = RegulaFalsi (double d0) (double d1)
+
+abbrev pub least : ℕ
+least = 0x2d30_0000_0000_0000
+
+abbrev pub halfLeast : ℕ
+halfLeast = 0x2d20_0000_0000_0000
+
+-- x^n from 0: the value at the first start is 0, and found at once where the call passes
+unfoldable pub limits : List Case
+limits =
+    accepted (noughts 16) fromNought part1024 9 0 (d0 ∷ d0 ∷ []) 0 1 0
+    ∷ refused (noughts 17) fromNought part1024 9 1 0 0 0
+    ∷ refused (noughts 0) fromNought part1024 9 1 0 0 0
+    ∷ accepted (noughts 1) fromNought least 9 0 (d0 ∷ d0 ∷ []) 0 1 0
+    ∷ refused (noughts 1) fromNought halfLeast 9 4 0 0 0
+    ∷ accepted (noughts 1) fromNought part1024 400 0 (d0 ∷ d0 ∷ []) 0 1 0
+    ∷ refused (noughts 1) fromNought part1024 401 5 0 0 0
+    ∷ []
+
+-- and so does every call of this list
+pub limits-hold : allHold limits ≡ true
+unfolding allHold limits holds agrees doubles sameBits answer badCount allFinite checkedOf badEps foundAt convergedAt absolute sameSign oppositeSign outside pulled atLeast atMost crosses middleOf markAfter sums value sumsBoth valueAndDerivative evaluated evaluatedBoth bind test stops sampled sampledBoth valueAt bothAt offered pulledInto productDeparts bracketed stepsTo narrowsTo run searches play answerOf br.arrange br.startOf br.opened br.secondAt br.firstAt br.opening br.inverseQuadratic br.chord br.threeValues br.guessOf br.beyondQuarter br.tooSlow br.stalls br.bisects br.usedOf br.nextOf br.keptA br.keptB br.stepDeparts br.arrived br.landed br.pulledIn br.stepWith br.stepFrom br.turnFrom br.brentProgram br.brent rf.secondAt rf.firstAt rf.ordered rf.opening rf.candidateOf rf.replacedOf rf.departs rf.arrived rf.landed rf.pulledIn rf.turnFrom rf.illinoisProgram rf.regulaFalsi sec.secondAt sec.firstAt sec.opening sec.candidateOf sec.arrived sec.landed sec.turnFrom sec.secantProgram sec.secant nr.newtonPoint nr.landed nr.onward nr.laterAt nr.turnFrom nr.nudgedTo nr.nudge nr.firstAt nr.opening nr.newtonProgram nr.newtonRaphson ps.secondAt ps.firstAt ps.ordered ps.opening ps.replacedOf ps.chosen ps.closer ps.newtonPoint ps.inPair ps.usable ps.atMiddle ps.stepAt ps.widthAt ps.pulledIn ps.atMiddleOf ps.turnFrom ps.polynomProgram ps.polynomSearch lt le eq ne neg sub add mul div ofBits toBits
+limits-hold = refl

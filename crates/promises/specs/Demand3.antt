@@ -1,0 +1,72 @@
+-- Demand 3, of every call that passes 1 to 5, over the history of its definition.
+use Prim.Native.Nat.{ℕ, _≤_}
+use mathlib.Core.Bool.{Bool, true, false}
+use mathlib.Core.List.{List}
+use mathlib.Core.Path.{_≡_}
+use lib.Ieee.{Float, binary64, lt, sub}
+use Rattle.doubles.specs.Doubles.{absolute, sameSign, orderOf}
+use Rattle.doubles.specs.Pairs.{BetweenZ}
+use Rattle.numerical.specs.declared.Answer.the-variants.{ByValue, ByWidth, Refused}
+use Rattle.polynom.specs.Polynom.{value}
+use Rattle.searching.specs.Brackets.{pairsIn, Narrows}
+use Rattle.searching.specs.ProgramLaws.{counted}
+use Rattle.searching.specs.Reasons.{Reason}
+use Rattle.roots.specs.Calls.{startsOf, answer}
+use Rattle.roots.specs.declared.Method.{Method}
+use Rattle.roots.specs.declared.Method.the-variants.{Secant, NewtonRaphson}
+use Rattle.promises.specs.Searches.{ruleOf, historyOf, atOnce, Held, mostValues, mostDerivatives, Reached, Bracketed, Truthful}
+use Rattle.promises.specs.Backing.{counts-of, values-within, derivatives-within, reason-of, value-true, width-true, pairs-of, root-by-value, root-by-width, six-told, history-truthful, unmarked-secant, unmarked-newton}
+
+module _ (a : List Float) (m : Method) (eps : Float) (limit : ℕ) (passes : atOnce a m eps limit ≡ 0) where
+  -- the steps, values and derivatives reported, and the mark, are those of the definition's history
+  pub counts : answer a m eps limit .progress ≡ counted (historyOf a m eps limit)
+  counts = counts-of a m eps limit passes
+
+  -- the values never exceed document 01's bound
+  pub values-bound : answer a m eps limit .progress .tally .values .0 ≤ mostValues m (ruleOf eps limit)
+  values-bound = values-within a m eps limit passes
+
+  -- nor do the derivatives
+  pub derivatives-bound : answer a m eps limit .progress .tally .derivatives .0 ≤ mostDerivatives m (ruleOf eps limit)
+  derivatives-bound = derivatives-within a m eps limit passes
+
+  module _ (doubles : Held (startsOf m)) where
+    -- the stated reason of any answer, refusals too, is true: it is the test that ended the run, and no stop test before it held
+    pub reasons : Reason a (ruleOf eps limit) (Reached a (ruleOf eps limit) m) (answer a m eps limit .answer) (historyOf a m eps limit)
+    reasons = reason-of a m eps limit passes doubles
+
+    -- by value: the root's computed value is the value given, and its size is below eps
+    pub by-value : (root y : Float) → answer a m eps limit .answer ≡ ByValue root y → (y ≡ value a root) × (lt (absolute y) eps ≡ true)
+    by-value root y e = value-true a m eps limit passes doubles root y e
+
+    -- by width: the computed difference of the two points given is below eps in size
+    pub by-width : (root p q : Float) → answer a m eps limit .answer ≡ ByWidth root p q → lt (absolute (sub binary64 p q)) eps ≡ true
+    by-width root p q e = width-true a m eps limit passes doubles root p q e
+
+    module _ (u v : Float) (starts : Bracketed m u v) where
+      -- Brent, Illinois and the polynomial search: every pair lies within the pair before, the first is the starts,
+      -- its values are the computed values at its points, and they are never both above zero nor both below
+      pub pairs : Narrows a u v (pairsIn (historyOf a m eps limit))
+      pairs = pairs-of a m eps limit passes doubles u v starts
+
+      -- any root returned lies between the starts by the order number, ends included
+      pub root-between-by-value : (root y : Float) → answer a m eps limit .answer ≡ ByValue root y → BetweenZ (orderOf u) (orderOf v) (orderOf root)
+      root-between-by-value root y e = root-by-value a m eps limit passes doubles u v starts root y e
+
+      pub root-between-by-width : (root p q : Float) → answer a m eps limit .answer ≡ ByWidth root p q → BetweenZ (orderOf u) (orderOf v) (orderOf root)
+      root-between-by-width root p q e = root-by-width a m eps limit passes doubles u v starts root p q e
+
+      -- 6: both values at the starts are above zero, or both below
+      pub no-bracketing : answer a m eps limit .answer ≡ Refused 6 → sameSign (value a u) (value a v) ≡ true
+      no-bracketing e = six-told a m eps limit passes doubles u v starts e
+
+-- the history's evaluations are those that the definition makes: each answer is the evaluator's at its point
+pub evaluations : (a : List Float) (m : Method) (eps : Float) (limit : ℕ) → Truthful a (historyOf a m eps limit)
+evaluations a m eps limit = history-truthful a m eps limit
+
+-- secant and Newton always have mark 0
+pub secant-unmarked : (a : List Float) (first second eps : Float) (limit : ℕ) → answer a (Secant first second) eps limit .progress .mark ≡ 0
+secant-unmarked a first second eps limit = unmarked-secant a first second eps limit
+
+pub newton-unmarked : (a : List Float) (start eps : Float) (limit : ℕ) → answer a (NewtonRaphson start) eps limit .progress .mark ≡ 0
+newton-unmarked a start eps limit = unmarked-newton a start eps limit

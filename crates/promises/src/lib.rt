@@ -1,0 +1,1 @@
+// The theorems that a customer reads stand in specs/. There is no code here.

@@ -1,0 +1,4 @@
+-- What the contracts of `regula_falsi` cite, and what the laws of searches give for it.
+pub mod RegulaFalsi
+pub mod RegulaFalsiLaws
+pub mod RegulaFalsiKeeps

@@ -1,0 +1,299 @@
+// The Illinois form of regula falsi over lent coefficients.
+use numerical::Answer;
+use numerical::Outcome;
+use numerical::Progress;
+use numerical::Sample;
+use polynom::Evaluated;
+use simple_convergency::StopRule;
+ghost use mathlib.Core.Path.{_≡_};
+ghost use mathlib.Core.List.{List};
+ghost use Prim.Native.Nat.{_≤_};
+ghost use lib.Ieee.{Float};
+ghost use Rattle.numerical.specs.Tallies.{fresh, Room};
+ghost use Rattle.numerical.specs.declared.Answer.the-variants.{ByValue};
+ghost use Rattle.searching.specs.Programs.{ended, oracle, play, tallied};
+ghost use Rattle.regula_falsi.specs.RegulaFalsi.{halved, secondAt, firstAt, ordered, opening, candidateOf, rightAfter, leftAfter, replacedOf, elsewhere, departs, arrived, landed, pulledIn, turnFrom, regulaFalsi, viewed};
+
+// An end of the pair: its sample, and the value that the chord is drawn with.
+pub struct End {
+    pub at: Sample,
+    pub weight: f64,
+}
+
+// Which end the step before replaced.
+pub enum Edge {
+    EdgeX1,
+    NoEdge,
+    EdgeX2,
+}
+
+pub struct Illinois {
+    pub left: End,
+    pub right: End,
+    pub edge: Edge,
+}
+
+pub enum Turn {
+    Ended(Outcome),
+    Next(Illinois, Progress),
+}
+
+fn ended(answer: Answer, progress: Progress) -> Turn
+    ensures { λ r. ⌜ viewed r ≡ (ended answer, progress) ⌝ }
+{
+    Turn::Ended(Outcome { answer, progress })
+}
+
+// The sample is a root by its value.
+fn by_value(s: Sample, progress: Progress) -> Turn
+    ensures { λ r. ⌜ viewed r ≡ (ended (ByValue (s .x) (s .y)), progress) ⌝ }
+{
+    ended(
+        Answer::ByValue {
+            root: s.x,
+            value: s.y,
+        },
+        progress,
+    )
+}
+
+// ---- the opening
+
+// The second value is found, or the two values have the same sign, or they are the first pair.
+fn second_at(stop: StopRule, p: Sample, q: Sample, progress: Progress) -> Turn
+    ensures { λ r. ⌜ ((cs : List Float) → viewed r ≡ play tallied (oracle cs) (secondAt stop p q) progress) ⌝ }
+{
+    if stop.found(q.y) {
+        return by_value(q, progress);
+    }
+    let marked = progress.ruled(1, searching::product_departs(p, q));
+    if doubles::same_sign(p.y, q.y) {
+        return ended(Answer::Refused(6), marked);
+    }
+    Turn::Next(
+        Illinois {
+            left: End { at: p, weight: p.y },
+            right: End { at: q, weight: q.y },
+            edge: Edge::NoEdge,
+        },
+        marked,
+    )
+}
+
+// The first value is tested before the second is evaluated.
+fn first_at(a: &[f64], stop: StopRule, x2: f64, p: Sample, progress: Progress) -> Turn
+    requires { ⌜ Room 1 progress ⌝ }
+    ensures { λ r. ⌜ viewed r ≡ play tallied (oracle (now (a .entry))) (firstAt stop x2 p) progress ⌝ }
+{
+    if stop.found(p.y) {
+        return by_value(p, progress);
+    }
+    let counted = progress.valued();
+    let e = polynom::evaluate(a, x2);
+    let Evaluated::At(q) = e else {
+        return ended(Answer::Refused(9), counted);
+    };
+    second_at(stop, p, q, counted)
+}
+
+// The opening from starts that are in order.
+fn ordered(a: &[f64], stop: StopRule, x1: f64, x2: f64, progress: Progress) -> Turn
+    requires { ⌜ Room 2 progress ⌝ }
+    ensures { λ r. ⌜ viewed r ≡ play tallied (oracle (now (a .entry))) (ordered stop x1 x2) progress ⌝ }
+{
+    let counted = progress.valued();
+    let e = polynom::evaluate(a, x1);
+    let Evaluated::At(p) = e else {
+        return ended(Answer::Refused(9), counted);
+    };
+    first_at(a, stop, x2, p, counted)
+}
+
+// The smaller start comes first, and equal ones keep their order.
+fn opened(a: &[f64], stop: StopRule, from: f64, to: f64) -> Turn
+    ensures { λ r. ⌜ viewed r ≡ play tallied (oracle (now (a .entry))) (opening stop from to) fresh ⌝ }
+{
+    let progress = Progress::fresh();
+    if from > to {
+        ordered(a, stop, to, from, progress)
+    } else {
+        ordered(a, stop, from, to, progress)
+    }
+}
+
+// ---- a step
+
+// Where the chord through the weights crosses zero.
+fn candidate(s: Illinois) -> f64
+    ensures { λ r. ⌜ r ≡ candidateOf s ⌝ }
+{
+    (s.left.at.x * s.right.weight - s.right.at.x * s.left.weight) / (s.right.weight - s.left.weight)
+}
+
+fn halve(e: End) -> End
+    ensures { λ r. ⌜ r ≡ halved e ⌝ }
+{
+    let at = e.at;
+    End {
+        at,
+        weight: e.weight / 2.0,
+    }
+}
+
+// The right end once the left is replaced: at half its weight if the step before replaced the left too.
+fn right_after(edge: Edge, e: End) -> End
+    ensures { λ r. ⌜ r ≡ rightAfter edge e ⌝ }
+{
+    match edge {
+        Edge::EdgeX1 => halve(e),
+        Edge::NoEdge => e,
+        Edge::EdgeX2 => e,
+    }
+}
+
+// The left end once the right is replaced: at half its weight if the step before replaced the right too.
+fn left_after(edge: Edge, e: End) -> End
+    ensures { λ r. ⌜ r ≡ leftAfter edge e ⌝ }
+{
+    match edge {
+        Edge::EdgeX1 => e,
+        Edge::NoEdge => e,
+        Edge::EdgeX2 => halve(e),
+    }
+}
+
+// The sample takes the place of the end whose sign it shares.
+fn replaced(s: Illinois, p: Sample) -> Illinois
+    ensures { λ r. ⌜ r ≡ replacedOf s p ⌝ }
+{
+    let edge = s.edge;
+    let left = s.left;
+    let right = s.right;
+    let new = End { at: p, weight: p.y };
+    if doubles::same_sign(p.y, left.at.y) {
+        Illinois {
+            left: new,
+            right: right_after(edge, right),
+            edge: Edge::EdgeX1,
+        }
+    } else {
+        Illinois {
+            left: left_after(edge, left),
+            right: new,
+            edge: Edge::EdgeX2,
+        }
+    }
+}
+
+// Whether the Rust's two tests of products, made in turn, lead elsewhere than the test of signs.
+fn elsewhere(same: bool, first: bool, second: bool) -> bool
+    ensures { λ r. ⌜ r ≡ elsewhere same first second ⌝ }
+{
+    if same {
+        !first
+    } else if first {
+        true
+    } else {
+        !second
+    }
+}
+
+// Whether the Rust, which multiplies with the weights, would replace another end than the signs say.
+fn departs(s: Illinois, p: Sample) -> bool
+    ensures { λ r. ⌜ r ≡ departs s p ⌝ }
+{
+    let same = doubles::same_sign(p.y, s.left.at.y);
+    let first = doubles::is_above(p.y * s.left.weight);
+    let second = doubles::is_above(p.y * s.right.weight);
+    elsewhere(same, first, second)
+}
+
+// The sample at the candidate is found, or it replaces an end.
+fn arrived(stop: StopRule, s: Illinois, sample: Sample, p: Progress) -> Turn
+    requires { ⌜ Room 1 p ⌝ }
+    ensures { λ r. ⌜ ((cs : List Float) → viewed r ≡ play tallied (oracle cs) (arrived stop s sample) p) ⌝ }
+{
+    if stop.found(sample.y) {
+        return by_value(sample, p);
+    }
+    let marked = p.ruled(1, departs(s, sample));
+    Turn::Next(replaced(s, sample), marked.stepped())
+}
+
+// The pair is small enough and x is the answer, or x is evaluated.
+fn landed(a: &[f64], stop: StopRule, s: Illinois, x: f64, p: Progress) -> Turn
+    requires { ⌜ Room 2 p ⌝ }
+    ensures { λ r. ⌜ viewed r ≡ play tallied (oracle (now (a .entry))) (landed stop s x) p ⌝ }
+{
+    let x1 = s.left.at.x;
+    let x2 = s.right.at.x;
+    if stop.converged(x1, x2) {
+        return ended(
+            Answer::ByWidth {
+                root: x,
+                p: x1,
+                q: x2,
+            },
+            p,
+        );
+    }
+    let counted = p.valued();
+    let e = polynom::evaluate(a, x);
+    let Evaluated::At(q) = e else {
+        return ended(Answer::Refused(9), counted);
+    };
+    arrived(stop, s, q, counted)
+}
+
+// A candidate outside the pair becomes the nearer end.
+fn pulled_in(a: &[f64], stop: StopRule, s: Illinois, x: f64, p: Progress) -> Turn
+    requires { ⌜ Room 2 p ⌝ }
+    ensures { λ r. ⌜ viewed r ≡ play tallied (oracle (now (a .entry))) (pulledIn stop s x) p ⌝ }
+{
+    let x1 = s.left.at.x;
+    let x2 = s.right.at.x;
+    let marked = p.ruled(2, doubles::is_outside(x1, x2, x));
+    let inside = doubles::pulled(x1, x2, x);
+    landed(a, stop, s, inside, marked)
+}
+
+// One step: the candidate is refused if it isn't finite.
+fn take_turn(a: &[f64], stop: StopRule, s: Illinois, p: Progress) -> Turn
+    requires { ⌜ Room 3 p ⌝ }
+    ensures { λ r. ⌜ viewed r ≡ play tallied (oracle (now (a .entry))) (turnFrom stop s) p ⌝ }
+{
+    let x = candidate(s);
+    if doubles::is_finite(x) {
+        pulled_in(a, stop, s, x, p)
+    } else {
+        ended(Answer::Refused(9), p)
+    }
+}
+
+// ---- the search
+
+// The opening, and then as many turns as the rule allows, until one of them ends the search.
+pub fn find_root(a: &[f64], stop: StopRule, from: f64, to: f64) -> Outcome
+    requires { ⌜ stop .limit ≤ 400 ⌝ }
+    ensures { λ r. ⌜ r ≡ regulaFalsi (now (a .entry)) stop from to ⌝ }
+{
+    let most = stop.turns();
+    let mut turn = opened(a, stop, from, to);
+    let mut n: u64 = 0;
+    while n < most {
+        match turn {
+            Turn::Ended(outcome) => return outcome,
+            Turn::Next(s, p) => {
+                turn = take_turn(a, stop, s, p);
+            }
+        }
+        n += 1;
+    }
+    match turn {
+        Turn::Ended(outcome) => outcome,
+        Turn::Next(_, p) => Outcome {
+            answer: Answer::Refused(8),
+            progress: p,
+        },
+    }
+}

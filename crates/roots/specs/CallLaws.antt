@@ -1,0 +1,76 @@
+-- What the proofs of the calls cite.
+use Prim.Native.Nat.{ℕ, suc, _+_, _≤_, _<_}
+use native.Mathlib.Numerals.{add-one}
+use native.Mathlib.Omega.{arith}
+use mathlib.Core.Bool.{Bool, true, false, cond}
+use mathlib.Core.List.{List, [], _∷_}
+use mathlib.Core.Path.{_≡_, refl, ap, sym, _∙_}
+use lib.ListN.{length, drop, getD}
+use lib.Seq.{drop-cons, drop-length}
+use lib.Ieee.{Float, nan}
+use lib.Ieee.Scale.{finite}
+use Rattle.numerical.specs.Answers.{refusedAtOnce}
+use Rattle.numerical.specs.declared.Outcome.{Outcome}
+use Rattle.simple_convergency.specs.Stop.{checkedOf}
+use Rattle.simple_convergency.specs.StopLaws.{passed}
+use Rattle.simple_convergency.specs.declared.StopRule.{StopRule}
+use Rattle.simple_convergency.specs.declared.Checked.{Checked}
+use Rattle.simple_convergency.specs.declared.Checked.the-variants.{Rule, Refused}
+use Rattle.roots.specs.Calls.{allFinite, startsOf, foundBy, foundUnder}
+use Rattle.roots.specs.declared.Method.{Method}
+
+-- ---- the coefficients from i on
+
+module _ (a : List Float) (i : ℕ) (h : i < length a) where
+  one-off : drop i a ≡ getD a i nan ∷ drop (i + 1) a
+  one-off = rw (add-one, drop-cons a i nan)
+
+  pub finite-on : {f : Bool} → f ≡ finite (getD a i nan) → f ≡ true → allFinite (drop i a) ≡ allFinite a → allFinite (drop (i + 1) a) ≡ allFinite a
+  unfolding allFinite
+  finite-on e t k = go ∙ k
+    where
+      go : allFinite (drop (i + 1) a) ≡ allFinite (drop i a)
+      go = rw (one-off, ← e, t)
+
+  pub finite-off : {f : Bool} → f ≡ finite (getD a i nan) → f ≡ false → allFinite (drop i a) ≡ allFinite a → false ≡ allFinite a
+  unfolding allFinite
+  finite-off e t k = go ∙ k
+    where
+      go : false ≡ allFinite (drop i a)
+      go = rw (one-off, ← e, t)
+
+pub finite-end : (a : List Float) (i : ℕ) → i ≤ length a → length a ≤ i → allFinite (drop i a) ≡ allFinite a → true ≡ allFinite a
+unfolding allFinite
+finite-end a i h k e = go ∙ e
+  where
+    same : i ≡ length a
+    same = omega arith
+
+    go : true ≡ allFinite (drop i a)
+    go = rw (same, drop-length)
+
+-- ---- by the method's variant, and by the stop rule's check
+
+pub by-starts : {r : Bool} (m : Method) {n : Method} → m ≡ n → r ≡ allFinite (startsOf n) → r ≡ allFinite (startsOf m)
+by-starts m e k = rw e k
+
+pub one-finite : {r : Bool} (x : Float) → r ≡ finite x → r ≡ allFinite (x ∷ [])
+unfolding allFinite
+one-finite x e = e ∙ go (finite x)
+  where
+    go : (b : Bool) → b ≡ cond b true false
+    go true = refl
+    go false = refl
+
+pub by-method : {r : Outcome} (a : List Float) (stop : StopRule) (m : Method) {n : Method} → m ≡ n → r ≡ foundBy a stop n → r ≡ foundBy a stop m
+by-method a stop m e k = rw e k
+
+module _ {r : Outcome} (a : List Float) (m : Method) (eps : Float) (limit : ℕ) {c : Checked} where
+  pub by-rule : {stop : StopRule} → c ≡ checkedOf eps limit → c ≡ Rule stop → r ≡ foundBy a stop m → r ≡ foundUnder a m (checkedOf eps limit)
+  by-rule e k g = g ∙ ap (foundUnder a m) (sym k ∙ e)
+
+  pub by-refusal : {n : ℕ} → c ≡ checkedOf eps limit → c ≡ Refused n → r ≡ refusedAtOnce n → r ≡ foundUnder a m (checkedOf eps limit)
+  by-refusal e k g = g ∙ ap (foundUnder a m) (sym k ∙ e)
+
+pub limit-kept : (eps : Float) (limit : ℕ) {c : Checked} {stop : StopRule} → c ≡ checkedOf eps limit → c ≡ Rule stop → stop .limit ≤ 400
+limit-kept eps limit e k = let p = passed eps limit _ (sym e ∙ k) in let s = p .same-limit in let l = p .in-range in omega arith

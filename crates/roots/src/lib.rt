@@ -1,0 +1,148 @@
+// The calls that a customer makes: one search over lent coefficients, and one for each method under its name in the Rust.
+use numerical::Outcome;
+use simple_convergency::Checked;
+use simple_convergency::StopRule;
+ghost use mathlib.Core.Path.{_≡_};
+ghost use mathlib.Core.List.{[], _∷_};
+ghost use Prim.Native.Nat.{_≤_};
+ghost use Rattle.roots.specs.Calls.{badCount, allFinite, startsOf, foundBy, foundUnder, answer, plainLimit};
+ghost use Rattle.simple_convergency.specs.Stop.{checkedOf};
+
+// A method with its starts.
+pub enum Method {
+    Brent { from: f64, to: f64 },
+    RegulaFalsi { from: f64, to: f64 },
+    Secant { first: f64, second: f64 },
+    NewtonRaphson { start: f64 },
+    Polynom { from: f64, to: f64 },
+}
+
+// Whether there are none, or too many, coefficients.
+fn is_bad_count(count: usize) -> bool
+    ensures { λ r. ⌜ r ≡ badCount count ⌝ }
+{
+    if count == 0 {
+        true
+    } else {
+        StopRule::MOST_COEFFICIENTS < count
+    }
+}
+
+// Whether each coefficient is finite.
+fn all_finite(a: &[f64]) -> bool
+    ensures { λ r. ⌜ r ≡ allFinite (now (a .entry)) ⌝ }
+{
+    let mut i = 0;
+    while i < a.len() {
+        if doubles::is_finite(a[i]) {
+            i += 1;
+        } else {
+            return false;
+        }
+    }
+    true
+}
+
+fn both_finite(p: f64, q: f64) -> bool
+    ensures { λ r. ⌜ r ≡ allFinite (p ∷ q ∷ []) ⌝ }
+{
+    if doubles::is_finite(p) {
+        doubles::is_finite(q)
+    } else {
+        false
+    }
+}
+
+// Whether each start of the method is finite.
+fn starts_finite(method: Method) -> bool
+    ensures { λ r. ⌜ r ≡ allFinite (startsOf method) ⌝ }
+{
+    match method {
+        Method::Brent { from, to } => both_finite(from, to),
+        Method::RegulaFalsi { from, to } => both_finite(from, to),
+        Method::Secant { first, second } => both_finite(first, second),
+        Method::NewtonRaphson { start } => doubles::is_finite(start),
+        Method::Polynom { from, to } => both_finite(from, to),
+    }
+}
+
+// The method's own search.
+fn found_by(a: &[f64], stop: StopRule, method: Method) -> Outcome
+    requires { ⌜ stop .limit ≤ 400 ⌝ }
+    ensures { λ r. ⌜ r ≡ foundBy (now (a .entry)) stop method ⌝ }
+{
+    match method {
+        Method::Brent { from, to } => brent::find_root(a, stop, from, to),
+        Method::RegulaFalsi { from, to } => regula_falsi::find_root(a, stop, from, to),
+        Method::Secant { first, second } => secant::find_root(a, stop, first, second),
+        Method::NewtonRaphson { start } => newton_raphson::find_root(a, stop, start),
+        Method::Polynom { from, to } => polynom_search::find_root(a, stop, from, to),
+    }
+}
+
+// Refusals 4 and 5, and then the search.
+fn found_under(a: &[f64], method: Method, eps: f64, limit: u64) -> Outcome
+    ensures { λ r. ⌜ r ≡ foundUnder (now (a .entry)) method (checkedOf eps limit) ⌝ }
+{
+    let checked = StopRule::checked(eps, limit);
+    match checked {
+        Checked::Rule(stop) => found_by(a, stop, method),
+        Checked::Refused(number) => Outcome::refused_at_once(number),
+    }
+}
+
+// A search: refusals 1 to 5 in that order, before any evaluation, and then the method.
+pub fn search(a: &[f64], method: Method, eps: f64, limit: u64) -> Outcome
+    ensures { λ r. ⌜ r ≡ answer (now (a .entry)) method eps limit ⌝ }
+{
+    if is_bad_count(a.len()) {
+        return Outcome::refused_at_once(1);
+    }
+    if all_finite(a) {
+        if starts_finite(method) {
+            found_under(a, method, eps, limit)
+        } else {
+            Outcome::refused_at_once(3)
+        }
+    } else {
+        Outcome::refused_at_once(2)
+    }
+}
+
+// A search with the limit that a plain eps has in the Rust.
+pub fn search_plain(a: &[f64], method: Method, eps: f64) -> Outcome
+    ensures { λ r. ⌜ r ≡ answer (now (a .entry)) method eps plainLimit ⌝ }
+{
+    search(a, method, eps, 30)
+}
+
+pub fn find_root_brent(from: f64, to: f64, a: &[f64], eps: f64, limit: u64) -> Outcome
+    ensures { λ r. ⌜ r ≡ answer (now (a .entry)) (Method.Brent from to) eps limit ⌝ }
+{
+    search(a, Method::Brent { from, to }, eps, limit)
+}
+
+pub fn find_root_regula_falsi(from: f64, to: f64, a: &[f64], eps: f64, limit: u64) -> Outcome
+    ensures { λ r. ⌜ r ≡ answer (now (a .entry)) (Method.RegulaFalsi from to) eps limit ⌝ }
+{
+    search(a, Method::RegulaFalsi { from, to }, eps, limit)
+}
+
+pub fn find_root_secant(first: f64, second: f64, a: &[f64], eps: f64, limit: u64) -> Outcome
+    ensures { λ r. ⌜ r ≡ answer (now (a .entry)) (Method.Secant first second) eps limit ⌝ }
+{
+    search(a, Method::Secant { first, second }, eps, limit)
+}
+
+pub fn find_root_newton_raphson(start: f64, a: &[f64], eps: f64, limit: u64) -> Outcome
+    ensures { λ r. ⌜ r ≡ answer (now (a .entry)) (Method.NewtonRaphson start) eps limit ⌝ }
+{
+    search(a, Method::NewtonRaphson { start }, eps, limit)
+}
+
+// The polynomial search, which the Rust keeps private as find_root of polynom.rs.
+pub fn find_root_polynom(from: f64, to: f64, a: &[f64], eps: f64, limit: u64) -> Outcome
+    ensures { λ r. ⌜ r ≡ answer (now (a .entry)) (Method.Polynom from to) eps limit ⌝ }
+{
+    search(a, Method::Polynom { from, to }, eps, limit)
+}

@@ -1,0 +1,177 @@
+// The secant method over lent coefficients.
+use numerical::Answer;
+use numerical::Outcome;
+use numerical::Progress;
+use numerical::Sample;
+use polynom::Evaluated;
+use simple_convergency::StopRule;
+ghost use mathlib.Core.Path.{_≡_};
+ghost use mathlib.Core.List.{List};
+ghost use Prim.Native.Nat.{_≤_};
+ghost use lib.Ieee.{Float};
+ghost use Rattle.numerical.specs.Tallies.{Room};
+ghost use Rattle.numerical.specs.declared.Answer.the-variants.{ByValue};
+ghost use Rattle.searching.specs.Programs.{ended, oracle, play, tallied};
+ghost use Rattle.secant.specs.Secant.{secondAt, firstAt, opening, candidateOf, arrived, landed, turnFrom, secant, viewed};
+
+// The two last points.
+pub struct Secant {
+    pub first: Sample,
+    pub second: Sample,
+}
+
+// Where a turn leaves the search: at its end, or at the next state.
+pub enum Turn {
+    Ended(Outcome),
+    Next(Secant, Progress),
+}
+
+// The search ends here.
+fn ended(answer: Answer, progress: Progress) -> Turn
+    ensures { λ r. ⌜ viewed r ≡ (ended answer, progress) ⌝ }
+{
+    Turn::Ended(Outcome { answer, progress })
+}
+
+// The sample is a root by its value.
+fn by_value(s: Sample, progress: Progress) -> Turn
+    ensures { λ r. ⌜ viewed r ≡ (ended (ByValue (s .x) (s .y)), progress) ⌝ }
+{
+    ended(
+        Answer::ByValue {
+            root: s.x,
+            value: s.y,
+        },
+        progress,
+    )
+}
+
+// ---- the opening
+
+// The second start was evaluated: it is found, or both starts are kept.
+fn second_at(stop: StopRule, first: Sample, second: Sample, progress: Progress) -> Turn
+    ensures { λ r. ⌜ ((cs : List Float) → viewed r ≡ play tallied (oracle cs) (secondAt stop first second) progress) ⌝ }
+{
+    if stop.found(second.y) {
+        return by_value(second, progress);
+    }
+    Turn::Next(Secant { first, second }, progress)
+}
+
+// The first start was evaluated: it is found, or the second is evaluated.
+fn first_at(a: &[f64], stop: StopRule, second: f64, p: Sample, progress: Progress) -> Turn
+    requires { ⌜ Room 1 progress ⌝ }
+    ensures { λ r. ⌜ viewed r ≡ play tallied (oracle (now (a .entry))) (firstAt stop second p) progress ⌝ }
+{
+    if stop.found(p.y) {
+        return by_value(p, progress);
+    }
+    let counted = progress.valued();
+    let e = polynom::evaluate(a, second);
+    let Evaluated::At(q) = e else {
+        return ended(Answer::Refused(9), counted);
+    };
+    second_at(stop, p, q, counted)
+}
+
+// The first start is evaluated.
+fn opened(a: &[f64], stop: StopRule, first: f64, second: f64, progress: Progress) -> Turn
+    requires { ⌜ Room 2 progress ⌝ }
+    ensures { λ r. ⌜ viewed r ≡ play tallied (oracle (now (a .entry))) (opening stop first second) progress ⌝ }
+{
+    let counted = progress.valued();
+    let e = polynom::evaluate(a, first);
+    let Evaluated::At(p) = e else {
+        return ended(Answer::Refused(9), counted);
+    };
+    first_at(a, stop, second, p, counted)
+}
+
+// ---- a step
+
+// Where the line through the two points crosses zero.
+fn candidate(s: Secant) -> f64
+    ensures { λ r. ⌜ r ≡ candidateOf s ⌝ }
+{
+    s.second.x - s.second.y * (s.second.x - s.first.x) / (s.second.y - s.first.y)
+}
+
+// The candidate was evaluated: it is found, or the two last points go on.
+fn arrived(stop: StopRule, s: Secant, second: Sample, progress: Progress) -> Turn
+    requires { ⌜ Room 1 progress ⌝ }
+    ensures { λ r. ⌜ ((cs : List Float) → viewed r ≡ play tallied (oracle cs) (arrived stop s second) progress) ⌝ }
+{
+    if stop.found(second.y) {
+        return by_value(second, progress);
+    }
+    let first = s.second;
+    Turn::Next(Secant { first, second }, progress.stepped())
+}
+
+// The candidate is close to the last point, or it is evaluated.
+fn landed(a: &[f64], stop: StopRule, s: Secant, x: f64, progress: Progress) -> Turn
+    requires { ⌜ Room 2 progress ⌝ }
+    ensures { λ r. ⌜ viewed r ≡ play tallied (oracle (now (a .entry))) (landed stop s x) progress ⌝ }
+{
+    let x2 = s.second.x;
+    if stop.converged(x, x2) {
+        return ended(
+            Answer::ByWidth {
+                root: x,
+                p: x,
+                q: x2,
+            },
+            progress,
+        );
+    }
+    let counted = progress.valued();
+    let e = polynom::evaluate(a, x);
+    let Evaluated::At(p) = e else {
+        return ended(Answer::Refused(9), counted);
+    };
+    arrived(stop, s, p, counted)
+}
+
+// One step: the values must differ, and the candidate must be finite.
+fn take_turn(a: &[f64], stop: StopRule, s: Secant, progress: Progress) -> Turn
+    requires { ⌜ Room 3 progress ⌝ }
+    ensures { λ r. ⌜ viewed r ≡ play tallied (oracle (now (a .entry))) (turnFrom stop s) progress ⌝ }
+{
+    if stop.found(s.first.y - s.second.y) {
+        return ended(Answer::Refused(7), progress);
+    }
+    let x = candidate(s);
+    if doubles::is_finite(x) {
+        landed(a, stop, s, x, progress)
+    } else {
+        ended(Answer::Refused(9), progress)
+    }
+}
+
+// ---- the search
+
+// A root by the secant method from two points: the opening, and a step at a time until an end or the limit.
+pub fn find_root(a: &[f64], stop: StopRule, first: f64, second: f64) -> Outcome
+    requires { ⌜ stop .limit ≤ 400 ⌝ }
+    ensures { λ r. ⌜ r ≡ secant (now (a .entry)) stop first second ⌝ }
+{
+    let most = stop.turns();
+    let mut turn = opened(a, stop, first, second, Progress::fresh());
+    let mut n: u64 = 0;
+    while n < most {
+        match turn {
+            Turn::Ended(outcome) => return outcome,
+            Turn::Next(s, p) => {
+                turn = take_turn(a, stop, s, p);
+            }
+        }
+        n += 1;
+    }
+    match turn {
+        Turn::Ended(outcome) => outcome,
+        Turn::Next(_, p) => Outcome {
+            answer: Answer::Refused(8),
+            progress: p,
+        },
+    }
+}

@@ -1,0 +1,3 @@
+-- What the contracts of `simple_convergency` cite.
+pub mod Stop
+pub mod StopLaws

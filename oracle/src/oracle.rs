@@ -1,0 +1,56 @@
+// Asks the published methods: a call a line in, an answer a line out. See README.md.
+
+// What only `compare` uses is no concern here.
+#[allow(dead_code)]
+mod call;
+#[allow(dead_code)]
+mod run;
+mod watch;
+
+use std::io::{BufRead, Write};
+use watch::Test;
+
+// All NaNs look alike, so that an answer does not depend on the processor.
+fn bits(x: f64) -> u64 {
+    if x.is_nan() {
+        0x7ff8_0000_0000_0000
+    } else {
+        x.to_bits()
+    }
+}
+
+fn answer(line: &str, trace: bool) -> String {
+    let Some(call) = call::read(line) else { return "error".to_string() };
+    let run = run::run(&call, trace);
+    let finite = if run.not_finite.is_none() { "finite" } else { "nonfinite" };
+    let counts = format!("{} {} {finite}", run.tallies.values, run.tallies.derivatives);
+    let mut text = match run.result {
+        Ok(root) => format!("ok {:016x} {counts}", bits(root)),
+        Err(number) => format!("err {number} {counts}"),
+    };
+    let word = |held: bool| if held { "yes" } else { "no" };
+    for test in run.kept.unwrap_or_default() {
+        text += &match test {
+            Test::Found { y, held } => format!(" ; found {:016x} {}", bits(y), word(held)),
+            Test::Converged { p, q, held } => format!(" ; converged {:016x} {:016x} {}", bits(p), bits(q), word(held)),
+            Test::Limit { iter, held } => format!(" ; limit {iter} {}", word(held)),
+        };
+    }
+    text
+}
+
+fn main() -> std::io::Result<()> {
+    let trace = match std::env::args().skip(1).collect::<Vec<_>>().as_slice() {
+        [] => false,
+        [option] if option == "--trace" => true,
+        _ => {
+            eprintln!("usage: oracle [--trace] < calls");
+            std::process::exit(2);
+        }
+    };
+    let mut out = std::io::BufWriter::new(std::io::stdout().lock());
+    for line in std::io::stdin().lock().split(b'\n') {
+        writeln!(out, "{}", answer(&String::from_utf8_lossy(&line?), trace))?;
+    }
+    out.flush()
+}
