@@ -1,10 +1,9 @@
 -- Each answer of Newton's method has its reason in the history, which has no mark.
-use Prim.Native.Nat.{ℕ, _+_, _-_, max}
+use Prim.Native.Nat.{ℕ, _+_, _-_, _≤_, max}
 use native.Mathlib.Omega.{arith}
-use mathlib.Core.Bool.{Bool, true, false, cond, false≢true}
+use mathlib.Core.Bool.{Bool, true, false, cond}
 use mathlib.Core.List.{List, []}
-use mathlib.Core.Logic.{_⊎_, inl, inr}
-use mathlib.Core.Path.{_≡_, refl, ap}
+use mathlib.Core.Path.{_≡_, refl, ap, sym}
 use lib.Ieee.{Float}
 use lib.Ieee.Scale.{finite}
 use Rattle.numerical.specs.declared.Answer.{Answer}
@@ -33,64 +32,69 @@ both-computed a x v = go (finite (valueAndDerivative a x .value .y)) (finite (va
 
 module _ (a : List Float) (stop : StopRule) (start : Float) where
   -- the start's derivative is flat, so that the first pass nudges
-  abbrev pub FlatStart : Type 0
-  FlatStart = foundAt stop (valueAndDerivative a start .derivative) ≡ true
+  abbrev pub flatStart : Bool
+  flatStart = foundAt stop (valueAndDerivative a start .derivative)
 
-  -- the steps are the larger of 1 and the limit, or of 2 and the limit where the first of them was the nudge
+  -- the steps are the larger of 2 and the limit where the start is flat, and the larger of 1 and the limit otherwise
   abbrev pub Reached : List Event → Type 0
-  Reached h = (stepsIn h ≡ max 1 (stop .limit)) ⊎ (FlatStart × (stepsIn h ≡ max 2 (stop .limit)))
+  Reached h = stepsIn h ≡ cond flatStart (max 2 (stop .limit)) (max 1 (stop .limit))
 
   abbrev pub Post : Answer → List Event → Type 0
   Post = Unmarked a stop Reached
 
-  -- after k steps, at a spot that only a flat start is nudged to
+  -- after k steps, of which the first is the nudge where the start is flat, and only there
   record Inv (k : ℕ) (s : Spot) (h : List Event) : Type 0 where
     plain : Plain k h
-    nudged-flat : s .nudged ≡ true → FlatStart
+    begun : 1 ≤ k
+    first : k ≡ 1 → s .nudged ≡ flatStart
+
+  -- where no step was made yet, the start is not flat
+  abbrev Steep : ℕ → Type 0
+  Steep k = k ≡ 0 → flatStart ≡ false
 
   abbrev Reaches : ℕ → Prog (Turned Spot) → List Event → Type 0
   Reaches k g h = Ends (oracle a) (After (Inv k) Post) g h
 
   -- ---- a step
-  keeps-landed : (k : ℕ) (x x1 : Float) (h : List Event) → Plain k h → Reaches (k + 1) (landed stop x x1) h
+  keeps-landed : (k : ℕ) (x x1 : Float) (h : List Event) → Steep k → Plain k h → Reaches (k + 1) (landed stop x x1) h
   unfolding landed noneHeld stepsIn markIn
-  keeps-landed k x x1 h i =
+  keeps-landed k x x1 h w i =
       ends-stops stop _ (λ e. ends-done (record { reason = by-width e (i .quiet); unmarked = i .unmarked }))
-      (λ e. ends-steps _ (record { plain = record { steps = ap (λ (n : ℕ). n + 1) (i .steps); quiet = i .quiet; unmarked = i .unmarked }; nudged-flat = λ f. absurd (false≢true f) }))
+      (λ e. ends-steps _ (record { plain = record { steps = ap (λ (n : ℕ). n + 1) (i .steps); quiet = i .quiet; unmarked = i .unmarked }; begun = omega arith; first = λ z. sym (w (omega arith)) }))
 
-  keeps-onward : (k : ℕ) (v : ValueAndDerivative) (h : List Event) → Plain k h → Reaches (k + 1) (onward stop v) h
+  keeps-onward : (k : ℕ) (v : ValueAndDerivative) (h : List Event) → Steep k → Plain k h → Reaches (k + 1) (onward stop v) h
   unfolding onward noneHeld stepsIn markIn
-  keeps-onward k v h i =
+  keeps-onward k v h w i =
       ends-offered _ _ (λ n. record { reason = of-candidate n (i .quiet); unmarked = i .unmarked })
-      (λ n. keeps-landed k _ _ _ (record { steps = i .steps; quiet = i .quiet; unmarked = i .unmarked }))
+      (λ n. keeps-landed k _ _ _ w (record { steps = i .steps; quiet = i .quiet; unmarked = i .unmarked }))
 
-  keeps-later : (k : ℕ) (v : ValueAndDerivative) (h : List Event) → True a (v .value) → Plain k h → Reaches (k + 1) (laterAt stop v) h
+  keeps-later : (k : ℕ) (v : ValueAndDerivative) (h : List Event) → True a (v .value) → Steep k → Plain k h → Reaches (k + 1) (laterAt stop v) h
   unfolding laterAt noneHeld stepsIn markIn
-  keeps-later k v h t i =
+  keeps-later k v h t w i =
       ends-stops stop _ (λ e. ends-done (record { reason = by-value t e (i .quiet); unmarked = i .unmarked }))
       (λ e. ends-stops stop _ (λ f. ends-done (record { reason = of-flatness f (i .quiet); unmarked = i .unmarked }))
-      (λ f. keeps-onward k v _ (record { steps = i .steps; quiet = i .quiet; unmarked = i .unmarked })))
+      (λ f. keeps-onward k v _ w (record { steps = i .steps; quiet = i .quiet; unmarked = i .unmarked })))
 
   keeps-turn : (k : ℕ) (s : Spot) (h : List Event) → Inv k s h → Reaches (k + 1) (turnFrom stop s) h
   unfolding turnFrom noneHeld stepsIn markIn
   keeps-turn k s h j =
       let i = j .plain in
       ends-both _ (λ n. record { reason = of-derivative (not-answered-both a _ n) (i .quiet); unmarked = i .unmarked })
-      (λ v n. keeps-later k v _ (answered-both a _ v n .is-true) (record { steps = i .steps; quiet = i .quiet; unmarked = i .unmarked }))
+      (λ v n. keeps-later k v _ (answered-both a _ v n .is-true) (λ z. absurd (omega arith)) (record { steps = i .steps; quiet = i .quiet; unmarked = i .unmarked }))
 
   -- ---- the opening
-  keeps-nudge : (x : Float) (h : List Event) → FlatStart → Plain 0 h → Reaches 1 (nudge x) h
+  keeps-nudge : (x : Float) (h : List Event) → flatStart ≡ true → Plain 0 h → Reaches 1 (nudge x) h
   unfolding nudge nudgedTo noneHeld stepsIn markIn
   keeps-nudge x h f i =
       ends-offered _ _ (λ n. record { reason = of-candidate n (i .quiet); unmarked = i .unmarked })
-      (λ n. ends-steps _ (record { plain = record { steps = ap (λ (n : ℕ). n + 1) (i .steps); quiet = i .quiet; unmarked = i .unmarked }; nudged-flat = λ g. f }))
+      (λ n. ends-steps _ (record { plain = record { steps = ap (λ (n : ℕ). n + 1) (i .steps); quiet = i .quiet; unmarked = i .unmarked }; begun = omega arith; first = λ z. sym f }))
 
   keeps-first : (v : ValueAndDerivative) (h : List Event) → True a (v .value) → valueAndDerivative a start ≡ v → Plain 0 h → Reaches 1 (firstAt stop v) h
   unfolding firstAt noneHeld stepsIn markIn
   keeps-first v h t e i =
       ends-stops stop _ (λ f. ends-done (record { reason = by-value t f (i .quiet); unmarked = i .unmarked }))
       (λ f. ends-test _ (λ g. keeps-nudge _ _ (rw e g) (record { steps = i .steps; quiet = i .quiet; unmarked = i .unmarked }))
-      (λ g. keeps-onward 0 v _ (record { steps = i .steps; quiet = i .quiet; unmarked = i .unmarked })))
+      (λ g. keeps-onward 0 v _ (λ z. rw e g) (record { steps = i .steps; quiet = i .quiet; unmarked = i .unmarked })))
 
   keeps-opening : Reaches 1 (opening stop start) []
   unfolding opening noneHeld stepsIn markIn
@@ -102,15 +106,13 @@ module _ (a : List Float) (stop : StopRule) (start : Float) where
   keeps-passes : (r : Turned Spot) (h : List Event) → After (Inv 1) Post r h → Ends (oracle a) Post (run (turnFrom stop) (turnsLeft stop r) r) h
   unfolding run
   keeps-passes (ended answer) h q = ends-done q
-  keeps-passes (next s) h q = go (s .nudged) refl
+  keeps-passes (next s) h q =
+      ends-run (turnFrom stop) Inv Post (cond flatStart (max 2 (stop .limit)) (max 1 (stop .limit))) keeps-turn
+      (λ s h i. record { reason = of-limit (i .plain .steps) (i .plain .quiet); unmarked = i .plain .unmarked }) (turnsLeft stop (next s)) 1 (rw (q .first refl) (all flatStart)) (next s) h q
     where
-      go : (b : Bool) → s .nudged ≡ b → Ends (oracle a) Post (run (turnFrom stop) (cond b (max 1 (stop .limit - 1)) (stop .limit - 1)) (next s)) h
-      go true e =
-          ends-run (turnFrom stop) Inv Post (max 2 (stop .limit)) keeps-turn
-          (λ s h i. record { reason = of-limit (inr (q .nudged-flat e, i .plain .steps)) (i .plain .quiet); unmarked = i .plain .unmarked }) (max 1 (stop .limit - 1)) 1 (omega arith) (next s) h q
-      go false e =
-          ends-run (turnFrom stop) Inv Post (max 1 (stop .limit)) keeps-turn
-          (λ s h i. record { reason = of-limit (inl (i .plain .steps)) (i .plain .quiet); unmarked = i .plain .unmarked }) (stop .limit - 1) 1 (omega arith) (next s) h q
+      all : (b : Bool) → 1 + cond b (max 1 (stop .limit - 1)) (stop .limit - 1) ≡ cond b (max 2 (stop .limit)) (max 1 (stop .limit))
+      all true = omega arith
+      all false = omega arith
 
   -- every Newton search ends with its reason, and unmarked
   pub newton-raphson-ends : Ends (oracle a) Post (newtonProgram stop start) []

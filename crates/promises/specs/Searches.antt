@@ -2,7 +2,6 @@
 use Prim.Native.Nat.{ℕ, _+_, _*_, max}
 use mathlib.Core.Bool.{Bool, true, false, cond}
 use mathlib.Core.List.{List, [], _∷_}
-use mathlib.Core.Logic.{_⊎_}
 use mathlib.Core.Path.{_≡_}
 use lib.Dec.{T, ltb}
 use lib.ListN.{length}
@@ -67,13 +66,12 @@ mostDerivatives (Secant first second) stop = 0
 mostDerivatives (NewtonRaphson start) stop = max 2 (stop .limit)
 mostDerivatives (Polynom from to) stop = turnsOf stop
 
--- the steps at which refusal 8 comes: the larger of 1 and limit, and after Newton's nudge the larger of 2 and limit
+-- the steps at which refusal 8 comes: the larger of 1 and limit, and for Newton from a flat start the larger of 2 and limit
 abbrev pub Reached : List Float → StopRule → Method → List Event → Type 0
 Reached a stop (Brent from to) h = stepsIn h ≡ turnsOf stop
 Reached a stop (RegulaFalsi from to) h = stepsIn h ≡ turnsOf stop
 Reached a stop (Secant first second) h = stepsIn h ≡ turnsOf stop
-Reached a stop (NewtonRaphson start) h =
-    (stepsIn h ≡ max 1 (stop .limit)) ⊎ ((foundAt stop (valueAndDerivative a start .derivative) ≡ true) × (stepsIn h ≡ max 2 (stop .limit)))
+Reached a stop (NewtonRaphson start) h = stepsIn h ≡ cond (foundAt stop (valueAndDerivative a start .derivative)) (max 2 (stop .limit)) (max 1 (stop .limit))
 Reached a stop (Polynom from to) h = stepsIn h ≡ turnsOf stop
 
 -- a bracketing method and its starts
