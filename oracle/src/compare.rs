@@ -8,6 +8,7 @@ mod model;
 #[allow(dead_code)]
 mod run;
 mod shrink;
+mod store;
 #[allow(dead_code)]
 mod watch;
 
@@ -17,8 +18,13 @@ use std::process::{Command, Stdio};
 use std::time::Instant;
 use watch::Test;
 
-const KNOWN: [&str; 3] =
-    [include_str!("../inputs/cases.txt"), include_str!("../inputs/readings.txt"), include_str!("../inputs/found.txt")];
+// The lists of inputs/, with their names.
+const KNOWN: [(&str, &str); 4] = [
+    ("cases.txt", include_str!("../inputs/cases.txt")),
+    ("readings.txt", include_str!("../inputs/readings.txt")),
+    ("found.txt", include_str!("../inputs/found.txt")),
+    ("rare.txt", include_str!("../inputs/rare.txt")),
+];
 
 struct Options {
     count: u64,
@@ -35,6 +41,7 @@ fn usage() -> ! {
     eprintln!("usage: compare COUNT SEED [--line-tool PATH] [--rust-only] [--batch N]");
     eprintln!("       compare --small [--line-tool PATH] [--rust-only] [--batch N]");
     eprintln!("       compare --file PATH [--line-tool PATH] [--rust-only]");
+    eprintln!("       compare --store COUNT SEED FOLDER");
     std::process::exit(2);
 }
 
@@ -167,9 +174,20 @@ fn difference(call: &Call, asked: &str, answer: &str, with_model: bool) -> Optio
     None
 }
 
-// One process a batch: it is given all lines, then the end of input, and must answer each.
+// A tool is a file or, where no file has that name, a command with its words.
+fn command(tool: &str) -> Command {
+    if let Ok(path) = std::fs::canonicalize(tool) {
+        return Command::new(path);
+    }
+    let mut words = tool.split_ascii_whitespace();
+    let mut command = Command::new(words.next().unwrap_or(tool));
+    command.args(words);
+    command
+}
+
+// One process a batch: it is given all lines, then the end of input, and must answer each and end well.
 fn ask<T>(tool: &str, lines: String, meanwhile: impl FnOnce() -> T) -> Result<(Vec<String>, T), String> {
-    let mut child = Command::new(tool)
+    let mut child = command(tool)
         .stdin(Stdio::piped())
         .stdout(Stdio::piped())
         .spawn()
@@ -185,13 +203,15 @@ fn ask<T>(tool: &str, lines: String, meanwhile: impl FnOnce() -> T) -> Result<(V
     let made = meanwhile();
     let text = reader.join().unwrap().map_err(|e| format!("{tool}: {e}"))?;
     let _ = writer.join().unwrap();
-    let _ = child.wait();
+    let status = child.wait().map_err(|e| format!("{tool}: {e}"))?;
     let answers: Vec<String> = text.lines().map(str::to_string).collect();
-    if answers.len() == count {
-        Ok((answers, made))
-    } else {
-        Err(format!("{tool} answered {} of {count} lines", answers.len()))
+    if answers.len() != count {
+        return Err(format!("{tool} answered {} of {count} lines", answers.len()));
     }
+    if !status.success() {
+        return Err(format!("{tool} ended with {status}"));
+    }
+    Ok((answers, made))
 }
 
 fn as_lines(calls: &[Call]) -> String {
@@ -288,6 +308,10 @@ fn listed(text: &str) -> Vec<(Call, Option<String>)> {
     list
 }
 
+fn known() -> Vec<Call> {
+    KNOWN.iter().flat_map(|(_, text)| listed(text)).map(|(call, _)| call).collect()
+}
+
 fn compare_file(options: &Options, path: &str) {
     let text = std::fs::read_to_string(path).unwrap_or_else(|e| {
         eprintln!("compare: {path}: {e}");
@@ -312,12 +336,19 @@ fn compare_file(options: &Options, path: &str) {
 }
 
 fn main() {
+    let words: Vec<String> = std::env::args().skip(1).collect();
+    if let [option, count, seed, folder] = words.as_slice() {
+        if option == "--store" {
+            let number = |word: &String| word.parse::<u64>().unwrap_or_else(|_| usage());
+            return store::store(number(count) as usize, number(seed), folder);
+        }
+    }
     let options = options();
     if let Some(path) = &options.file {
         return compare_file(&options, path);
     }
     let began = Instant::now();
-    let known: Vec<Call> = KNOWN.iter().flat_map(|text| listed(text)).map(|(call, _)| call).collect();
+    let known = known();
     let made = (0..options.count).map(|i| families::call(options.seed, i, &known));
     let mut calls: Box<dyn Iterator<Item = Call>> = if options.small { Box::new(families::small()) } else { Box::new(made) };
     let mut counts = vec![Counts::default(); 5];

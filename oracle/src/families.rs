@@ -1,4 +1,4 @@
-// Calls of many families. A call depends on the seed and on its index alone.
+// Calls of many families. A call depends on the seed, on its index and on the known calls.
 
 use crate::call::{starts, Call};
 

@@ -30,6 +30,7 @@ use Rattle.polynom_search.specs.PolynomSearch.{polynomSearch}
 use Rattle.roots.specs.Calls.{answer, plainLimit}
 use Rattle.roots.specs.declared.Method.{Method}
 use Rattle.roots.specs.declared.Method.the-variants.{Brent, RegulaFalsi, Secant, NewtonRaphson, Polynom}
+use Rattle.roots_c.specs.Flat.{flatKind, flatNumbers, flatTallies}
 
 -- a contract `r ≡ d` allows one result
 abbrev pub Fixed : {A : Type 0} → A → Type 0
@@ -60,6 +61,17 @@ find-root-newton-raphson-once start a eps limit = fixed _
 
 pub find-root-polynom-once : (from to : Float) (a : List Float) (eps : Float) (limit : ℕ) → Fixed (answer a (Polynom from to) eps limit)
 find-root-polynom-once from to a eps limit = fixed _
+
+-- ---- roots_c: the kind that is returned, and both buffers
+
+pub roots-search-kind-once : (a : List Float) (method : ℕ) (first second eps : Float) (limit : ℕ) → Fixed (flatKind a method first second eps limit)
+roots-search-kind-once a method first second eps limit = fixed _
+
+pub roots-search-numbers-once : (a : List Float) (method : ℕ) (first second eps : Float) (limit : ℕ) → Fixed (flatNumbers a method first second eps limit)
+roots-search-numbers-once a method first second eps limit = fixed _
+
+pub roots-search-tallies-once : (a : List Float) (method : ℕ) (first second eps : Float) (limit : ℕ) → Fixed (flatTallies a method first second eps limit)
+roots-search-tallies-once a method first second eps limit = fixed _
 
 -- ---- the methods
 

@@ -1,0 +1,166 @@
+// One call on either side. Both get coefficients, starts, eps and limit at run time and return from a call that is not inlined.
+
+use crate::calls::{Call, Method};
+use crate::fail;
+use roots::{find_root_brent, find_root_newton_raphson, find_root_regula_falsi, find_root_secant};
+use roots::{Interval, Polynom, Sample, SearchError, SimpleConvergency};
+
+#[derive(Clone, Copy)]
+pub enum Side {
+    Proved,
+    Rust,
+}
+
+// As include/roots.h says.
+extern "C" {
+    fn roots_search(
+        coefficients: *const f64,
+        count: usize,
+        method: u64,
+        first: f64,
+        second: f64,
+        eps: f64,
+        limit: u64,
+        numbers: *mut f64,
+        tallies: *mut u64,
+    ) -> u64;
+}
+
+pub struct Answer {
+    pub kind: u64,
+    pub numbers: [f64; 3],
+    pub tallies: [u64; 4],
+}
+
+#[inline(always)]
+pub fn proved(call: &Call) -> Answer {
+    let mut answer = Answer { kind: 0, numbers: [0.0; 3], tallies: [0; 4] };
+    let a = call.coefficients();
+    // SAFETY: the pointers are to live memory of the lengths that the function is told or writes, and nothing is kept.
+    answer.kind = unsafe {
+        roots_search(
+            a.as_ptr(),
+            a.len(),
+            call.method as u64,
+            call.first,
+            call.second,
+            call.eps,
+            call.limit,
+            answer.numbers.as_mut_ptr(),
+            answer.tallies.as_mut_ptr(),
+        )
+    };
+    answer
+}
+
+fn rule(eps: f64, limit: u64) -> SimpleConvergency<f64> {
+    SimpleConvergency { eps, max_iter: limit as usize }
+}
+
+#[inline(never)]
+fn brent(a: &[f64], first: f64, second: f64, eps: f64, limit: u64) -> Result<f64, SearchError> {
+    find_root_brent(first, second, |x| a.value(&x), &mut rule(eps, limit))
+}
+
+#[inline(never)]
+fn illinois(a: &[f64], first: f64, second: f64, eps: f64, limit: u64) -> Result<f64, SearchError> {
+    find_root_regula_falsi(first, second, |x| a.value(&x), &mut rule(eps, limit))
+}
+
+#[inline(never)]
+fn secant(a: &[f64], first: f64, second: f64, eps: f64, limit: u64) -> Result<f64, SearchError> {
+    find_root_secant(first, second, |x| a.value(&x), &mut rule(eps, limit))
+}
+
+// The crate asks f and d apart, so the derivative's closure works out the value once more, as the oracle's does.
+#[inline(never)]
+fn newton(a: &[f64], first: f64, eps: f64, limit: u64) -> Result<f64, SearchError> {
+    find_root_newton_raphson(first, |x| a.value(&x), |x| a.value_and_derivative(&x).derivative, &mut rule(eps, limit))
+}
+
+// find_root is lent an interval with both values in it, the smaller start first.
+#[inline(never)]
+fn polynomial_search(a: &[f64], first: f64, second: f64, eps: f64, limit: u64) -> Result<f64, SearchError> {
+    let (low, high) = if first > second { (second, first) } else { (first, second) };
+    let sample = |x: f64| Sample { x, y: a.value(&x) };
+    let mut interval = Interval { begin: sample(low), end: sample(high) };
+    a.find_root(&mut interval, &mut rule(eps, limit))
+}
+
+#[inline(always)]
+fn rust_by(method: Method, call: &Call) -> Result<f64, SearchError> {
+    let a = call.coefficients();
+    let Call { first, second, eps, limit, .. } = *call;
+    match method {
+        Method::Brent => brent(a, first, second, eps, limit),
+        Method::Illinois => illinois(a, first, second, eps, limit),
+        Method::Secant => secant(a, first, second, eps, limit),
+        Method::Newton => newton(a, first, eps, limit),
+        Method::Polynom => polynomial_search(a, first, second, eps, limit),
+    }
+}
+
+pub fn rust(call: &Call) -> Result<f64, SearchError> {
+    rust_by(call.method, call)
+}
+
+// A root's bits, or an error's number.
+#[inline(always)]
+fn number_of_rust(result: Result<f64, SearchError>) -> u64 {
+    match result {
+        Ok(root) => root.to_bits(),
+        Err(SearchError::NoBracketing) => 6,
+        Err(SearchError::ZeroDerivative) => 7,
+        Err(SearchError::NoConvergency) => 8,
+    }
+}
+
+#[inline(always)]
+fn number_of_proved(answer: &Answer) -> u64 {
+    if answer.kind < 10 {
+        answer.numbers[0].to_bits()
+    } else {
+        answer.kind - 10
+    }
+}
+
+// Both sides must give the same root, bit for bit, or the same error. Calls with a mark are not benchmarked.
+pub fn checked(call: &Call) -> (u64, [u64; 4]) {
+    let answer = proved(call);
+    let one = number_of_proved(&answer);
+    let other = number_of_rust(rust(call));
+    if answer.tallies[3] != 0 || one != other || (answer.kind < 10) != rust(call).is_ok() {
+        fail(&format!("the sides differ: {one:016x} {other:016x} {call:?}"));
+    }
+    (one, answer.tallies)
+}
+
+#[inline(never)]
+fn summed_proved(calls: &[Call]) -> u64 {
+    calls.iter().fold(0, |sum: u64, call| sum.wrapping_add(number_of_proved(&proved(call))))
+}
+
+// The method is picked before the loop.
+#[inline(never)]
+fn summed_rust(calls: &[Call]) -> u64 {
+    macro_rules! all {
+        ($method:expr) => {
+            calls.iter().fold(0, |sum: u64, call| sum.wrapping_add(number_of_rust(rust_by($method, call))))
+        };
+    }
+    match calls[0].method {
+        Method::Brent => all!(Method::Brent),
+        Method::Illinois => all!(Method::Illinois),
+        Method::Secant => all!(Method::Secant),
+        Method::Newton => all!(Method::Newton),
+        Method::Polynom => all!(Method::Polynom),
+    }
+}
+
+// The sum of all answers' numbers.
+pub fn summed(side: Side, calls: &[Call]) -> u64 {
+    match side {
+        Side::Proved => summed_proved(calls),
+        Side::Rust => summed_rust(calls),
+    }
+}

@@ -1,0 +1,12 @@
+pub mod Digits
+pub mod DigitLaws
+pub mod BitLaws
+pub mod Fields
+pub mod FieldLaws
+pub mod Calls
+pub mod CallLaws
+pub mod ReadingLaws
+pub mod Texts
+pub mod TextLaws
+pub mod ReplyLaws
+pub mod States

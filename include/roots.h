@@ -1,0 +1,104 @@
+/*
+ * Root searches on x^n + a[0] x^(n-1) + ... + a[n-1], for C and C++.
+ *
+ * What a call gives back is proved to equal the definitions flatKind, flatNumbers and flatTallies of
+ * crates/roots_c/specs/Flat.antt for every input. The compiler's back end is not proved.
+ */
+#ifndef ROOTS_H
+#define ROOTS_H
+
+#include <stddef.h>
+#include <stdint.h>
+
+#ifdef __cplusplus
+extern "C" {
+#endif
+
+/* The version of this interface: roots_version() of a matching archive returns it. */
+#define ROOTS_VERSION 1
+
+/* The limits of the stop rule: 2^-300, 400 and 16. */
+#define ROOTS_LEAST_EPS 4.909093465297727e-91
+#define ROOTS_GREATEST_LIMIT 400
+#define ROOTS_MOST_COEFFICIENTS 16
+
+/* The limit that a plain eps has in the Rust crate roots 0.0.8. */
+#define ROOTS_PLAIN_LIMIT 30
+
+/* Methods. Any other number is answered with ROOTS_UNKNOWN_METHOD. */
+enum roots_method {
+    ROOTS_BRENT = 1,    /* first and second are the ends of a bracket, in either order */
+    ROOTS_ILLINOIS = 2, /* regula falsi; first and second are the ends, in either order */
+    ROOTS_SECANT = 3,   /* first and second are two points; they need not enclose a root */
+    ROOTS_NEWTON = 4,   /* first is the start; second is not looked at */
+    ROOTS_POLYNOM = 5   /* polynomial search; first and second are the ends, in either order */
+};
+
+/* Kinds, which the call returns. A refusal's kind is ROOTS_REFUSED plus its number. */
+#define ROOTS_REFUSED 10 /* numbers: three times +0.0 */
+
+enum roots_kind {
+    ROOTS_BY_VALUE = 0,       /* numbers: the root, its computed value, +0.0; |value| < eps */
+    ROOTS_BY_WIDTH = 1,       /* numbers: the root and two points p, q; |p - q| < eps as computed */
+    ROOTS_UNKNOWN_METHOD = 10 /* numbers and tallies all zero; only the method was looked at */
+};
+
+/*
+ * Refusals. 1 to 5 are tested in this order, before any evaluation, and leave all tallies zero.
+ * 6 to 9 come in order of the run, with the tallies up to there.
+ */
+enum roots_refusal {
+    ROOTS_BAD_COUNT = 1,       /* there are no coefficients, or more than 16 */
+    ROOTS_BAD_COEFFICIENT = 2, /* a coefficient is infinite or no number */
+    ROOTS_BAD_START = 3,       /* a start is infinite or no number */
+    ROOTS_BAD_EPS = 4,         /* eps is infinite, no number, or below 2^-300: zero and below too */
+    ROOTS_BAD_LIMIT = 5,       /* limit is above 400 */
+    ROOTS_NO_BRACKETING = 6,   /* methods with ends: the values there are both above zero or both below */
+    ROOTS_ZERO_DERIVATIVE = 7, /* secant: the values differ by less than eps; Newton: so small a slope */
+    ROOTS_NO_CONVERGENCY = 8,  /* the limit was reached, and no stop test had held */
+    ROOTS_NOT_FINITE = 9       /* a value, a derivative or a point to be used is infinite or no number */
+};
+
+/* What stands where in tallies. Steps and evaluations are counted apart. */
+enum roots_tally {
+    ROOTS_STEPS = 0,       /* completed steps */
+    ROOTS_VALUES = 1,      /* polynomial values worked out: 802 at most */
+    ROOTS_DERIVATIVES = 2, /* derivatives worked out: 400 at most */
+    ROOTS_MARK = 3         /* 0, or the first rule by which the run left the Rust's way: 1 signs */
+                           /* decided, and not a product; 2 a point was pulled to the nearer end */
+};
+
+/*
+ * One search.
+ *
+ *   coefficients  count doubles, a[0] first. They are only read. With count 0 the pointer is not
+ *                 looked at and may be null: the call is refused with ROOTS_BAD_COUNT.
+ *   method        one of enum roots_method
+ *   first, second the starts, as the method has them
+ *   eps           what counts as small: a value or a width below it stops the search
+ *   limit         the most steps; 0 does what 1 does, and Newton may then take 2
+ *   numbers       three doubles, all written by every call
+ *   tallies       four words, all written by every call
+ *
+ * Returns 0 by value, 1 by width, or 10 plus the number of a refusal. Any values may be passed, NaNs
+ * and infinities too: each gets its answer, and the call always returns.
+ *
+ * The caller sees to it that the pointers are to memory of these sizes, aligned for their types, that
+ * numbers and tallies are not null, and that none of the three buffers overlaps another.
+ *
+ * Nothing is kept after the call. There are no globals, no heap and no input or output, so any number
+ * of threads may call at once. It relies on the processor's default floating-point mode: rounding to
+ * nearest, subnormal numbers kept. (Linking with -ffast-math can turn the latter off.)
+ */
+uint64_t roots_search(const double *coefficients, size_t count, uint64_t method, double first,
+                      double second, double eps, uint64_t limit, double numbers[3],
+                      uint64_t tallies[4]);
+
+/* The version of the interface that the archive has: ROOTS_VERSION. */
+uint64_t roots_version(void);
+
+#ifdef __cplusplus
+}
+#endif
+
+#endif
