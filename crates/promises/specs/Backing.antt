@@ -12,7 +12,7 @@ use lib.Ieee.Scale.{finite}
 use borrow.Author.Tests.{ltb-false}
 use Rattle.doubles.specs.Doubles.{above, absolute, sameSign, orderOf}
 use Rattle.doubles.specs.Number.{Double}
-use Rattle.doubles.specs.Pairs.{Inside, BetweenZ, inside-order}
+use Rattle.doubles.specs.Pairs.{Inside, BetweenZ, inside-order, end-in, one-end, second-kept}
 use Rattle.numerical.specs.Answers.{refusedAtOnce}
 use Rattle.numerical.specs.declared.Answer.{Answer}
 use Rattle.numerical.specs.declared.Answer.the-variants.{ByValue, ByWidth, Refused}
@@ -26,7 +26,9 @@ use Rattle.searching.specs.Programs.{Prog, done, ask, askBoth, log, Event, aske
 use Rattle.searching.specs.Histories.{listed, history, valuesIn, derivativesIn, stepsIn, markIn}
 use Rattle.searching.specs.ProgramLaws.{play-counted, counted, tallies-are-counts}
 use Rattle.polynom.specs.Polynom.{value, evaluated, evaluatedBoth}
-use Rattle.searching.specs.Brackets.{pairsIn, Narrows, Told, Bracket}
+use Rattle.numerical.specs.declared.Interval.{Interval}
+use Rattle.searching.specs.BracketLaws.{double-num, newest-backed, newest-in}
+use Rattle.searching.specs.Brackets.{pairsIn, Backed, Narrows, no-pair, first-pair, next-pair, Told, Bracket}
 use Rattle.searching.specs.Reasons.{Reason, by-value, by-width, by-middle, of-signs, of-flatness, of-limit, of-value, of-derivative, of-candidate, of-middle}
 use Rattle.searching.specs.Keeps.{Ends}
 use Rattle.brent.specs.Brent.{brent}
@@ -47,7 +49,7 @@ use Rattle.polynom_search.specs.PolynomSearchLaws.{polynom-search-values, polyn
 use Rattle.roots.specs.Calls.{badCount, allFinite, startsOf, foundBy, foundUnder, answer}
 use Rattle.roots.specs.declared.Method.{Method}
 use Rattle.roots.specs.declared.Method.the-variants.{Brent, RegulaFalsi, Secant, NewtonRaphson, Polynom}
-use Rattle.promises.specs.Searches.{ruleOf, programOf, historyOf, atOnce, Held, mostValues, mostDerivatives, Reached, Bracketed, Truthful}
+use Rattle.promises.specs.Searches.{ruleOf, programOf, historyOf, atOnce, Held, mostValues, mostDerivatives, Reached, Bracketed, Truthful, PairBetween, NestedByOrder}
 
 -- each method's definition is its program's answer
 found-by-program : (a : List Float) (stop : StopRule) (m : Method) → foundBy a stop m ≡ answerOf a (programOf stop m)
@@ -193,6 +195,27 @@ reason-width : {a : List Float} {stop : StopRule} {R : List Event → Type 0} {r
 reason-width (by-width e q) = e
 reason-width (by-middle e q) = e
 
+-- pairs that narrow are nested by the order number, and lie between the starts
+module _ {a : List Float} {u v : Float} (du : Double u) (dv : Double v) where
+  pair-between : (x y : Float) (i : Interval) → Double x → Double y → Backed a i → Inside x y (i .begin .x) → Inside x y (i .end .x) → PairBetween x y i
+  pair-between x y i dx dy b p q = (inside-order x y (i .begin .x) dx dy (b .begin-double) .0 p, inside-order x y (i .end .x) dx dy (b .end-double) .0 q)
+
+  first-between : (i : Interval) → Backed a i → Narrows a u v (i ∷ []) → PairBetween u v i
+  first-between i b n =
+      let x = double-num (b .begin-double) in
+      let y = double-num (b .end-double) in
+      let k = one-end (i .begin .x) (i .end .x) (i .begin .x) (i .end .x) x y (second-kept (end-in (i .begin .x) (i .end .x) x y)) in
+      pair-between u v i du dv b (newest-in (i .begin .x) n (k .one-in)) (newest-in (i .end .x) n (k .other-in))
+
+  by-order : {l : List Interval} → Narrows a u v l → NestedByOrder u v l
+  by-order no-pair = tt
+  by-order (first-pair b s) = first-between _ b (first-pair b s)
+  by-order (next-pair {i = i} {j = j} b n l) = (
+    pair-between u v j du dv b (newest-in (j .begin .x) l (n .one-in)) (newest-in (j .end .x) l (n .other-in)),
+    pair-between (i .begin .x) (i .end .x) j (newest-backed l .begin-double) (newest-backed l .end-double) b (n .one-in) (n .other-in),
+    by-order l,
+  )
+
 module _ (a : List Float) (m : Method) (eps : Float) (limit : ℕ) (z : atOnce a m eps limit ≡ 0) (d : Held (startsOf m)) where
   pub reason-of : Reason a (ruleOf eps limit) (Reached a (ruleOf eps limit) m) (answer a m eps limit .answer) (historyOf a m eps limit)
   reason-of = let p = passed a m eps limit z in rw (p .is-answer) (reason-at a (ruleOf eps limit) (p .eps-above) m d (p .starts-finite))
@@ -236,6 +259,9 @@ module _ (a : List Float) (m : Method) (eps : Float) (limit : ℕ) (z : atOnce a
 
     pub six-told : answer a m eps limit .answer ≡ Refused 6 → sameSign (value a u) (value a v) ≡ true
     six-told e = subst (λ (x : Answer). Told a u v x) e (bracket-of .told) refl
+
+    pub pairs-nested : NestedByOrder u v (pairsIn (historyOf a m eps limit))
+    pairs-nested = by-order (start-doubles .0) (start-doubles .1) pairs-of
 
 -- every play asks the evaluator
 play-truthful : {A : Type 0} (a : List Float) (g : Prog A) (h : List Event) → Truthful a h → Truthful a (play listed (oracle a) g h .1)

@@ -14,8 +14,8 @@ use Rattle.searching.specs.Reasons.{Reason}
 use Rattle.roots.specs.Calls.{startsOf, answer}
 use Rattle.roots.specs.declared.Method.{Method}
 use Rattle.roots.specs.declared.Method.the-variants.{Secant, NewtonRaphson}
-use Rattle.promises.specs.Searches.{ruleOf, historyOf, atOnce, Held, mostValues, mostDerivatives, Reached, Bracketed, Truthful}
-use Rattle.promises.specs.Backing.{counts-of, values-within, derivatives-within, reason-of, value-true, width-true, pairs-of, root-by-value, root-by-width, six-told, history-truthful, unmarked-secant, unmarked-newton}
+use Rattle.promises.specs.Searches.{ruleOf, historyOf, atOnce, Held, mostValues, mostDerivatives, Reached, Bracketed, Truthful, NestedByOrder}
+use Rattle.promises.specs.Backing.{counts-of, values-within, derivatives-within, reason-of, value-true, width-true, pairs-of, pairs-nested, root-by-value, root-by-width, six-told, history-truthful, unmarked-secant, unmarked-newton}
 
 module _ (a : List Float) (m : Method) (eps : Float) (limit : ℕ) (passes : atOnce a m eps limit ≡ 0) where
   -- the steps, values and derivatives reported, and the mark, are those of the definition's history
@@ -48,6 +48,10 @@ module _ (a : List Float) (m : Method) (eps : Float) (limit : ℕ) (passes : atO
       -- its values are the computed values at its points, and they are never both above zero nor both below
       pub pairs : Narrows a u v (pairsIn (historyOf a m eps limit))
       pairs = pairs-of a m eps limit passes doubles u v starts
+
+      -- by the order number: each pair lies within the pair before, and between the starts
+      pub nested : NestedByOrder u v (pairsIn (historyOf a m eps limit))
+      nested = pairs-nested a m eps limit passes doubles u v starts
 
       -- any root returned lies between the starts by the order number, ends included
       pub root-between-by-value : (root y : Float) → answer a m eps limit .answer ≡ ByValue root y → BetweenZ (orderOf u) (orderOf v) (orderOf root)

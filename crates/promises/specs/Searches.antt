@@ -6,7 +6,10 @@ use mathlib.Core.Path.{_≡_}
 use lib.Dec.{T, ltb}
 use lib.ListN.{length}
 use lib.Ieee.{Float, binary64, fits}
+use Rattle.doubles.specs.Doubles.{orderOf}
+use Rattle.doubles.specs.Pairs.{BetweenZ}
 use Rattle.numerical.specs.declared.Answer.{Answer}
+use Rattle.numerical.specs.declared.Interval.{Interval}
 use Rattle.simple_convergency.specs.Stop.{greatestLimit, badEps, foundAt, turnsOf}
 use Rattle.simple_convergency.specs.declared.StopRule.{StopRule}
 use Rattle.polynom.specs.Polynom.{valueAndDerivative, evaluated, evaluatedBoth}
@@ -88,3 +91,13 @@ Truthful a [] = Unit {0}
 Truthful a (asked x e ∷ h) = (e ≡ evaluated a x) × Truthful a h
 Truthful a (askedBoth x e ∷ h) = (e ≡ evaluatedBoth a x) × Truthful a h
 Truthful a (noted n ∷ h) = Truthful a h
+
+-- a pair's points lie between x and y by the order number
+abbrev pub PairBetween : Float → Float → Interval → Type 0
+PairBetween x y i = BetweenZ (orderOf x) (orderOf y) (orderOf (i .begin .x)) × BetweenZ (orderOf x) (orderOf y) (orderOf (i .end .x))
+
+-- of the pairs of a history, newest first: each lies between the starts u and v, and within the pair before
+abbrev pub NestedByOrder : Float → Float → List Interval → Type 0
+NestedByOrder u v [] = Unit {0}
+NestedByOrder u v (i ∷ []) = PairBetween u v i
+NestedByOrder u v (j ∷ i ∷ older) = PairBetween u v j × PairBetween (i .begin .x) (i .end .x) j × NestedByOrder u v (i ∷ older)

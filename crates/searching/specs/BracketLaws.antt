@@ -27,7 +27,7 @@ use Rattle.searching.specs.Brackets.{pairsIn, pointsOf, Backed, AtStarts
 pub double-num : {x : Float} → Double x → Num x
 double-num {x} d = finite-num x (d .is-finite)
 
-newest-backed : {a : List Float} {u v : Float} {i : Interval} {older : List Interval} → Narrows a u v (i ∷ older) → Backed a i
+pub newest-backed : {a : List Float} {u v : Float} {i : Interval} {older : List Interval} → Narrows a u v (i ∷ older) → Backed a i
 newest-backed (first-pair b s) = b
 newest-backed (next-pair b n l) = b
 
@@ -36,7 +36,7 @@ turned u v c (inl t) = inr t
 turned u v c (inr t) = inl t
 
 -- what lies in the newest pair lies between the starts
-newest-in : {a : List Float} {u v : Float} {i : Interval} {older : List Interval} (c : Float) → Narrows a u v (i ∷ older) → In (pointsOf i) c → Inside u v c
+pub newest-in : {a : List Float} {u v : Float} {i : Interval} {older : List Interval} (c : Float) → Narrows a u v (i ∷ older) → In (pointsOf i) c → Inside u v c
 newest-in c (first-pair b (inl s)) t = rw (← s .0, ← s .1) t
 newest-in c (first-pair b (inr s)) t = rw (← s .0, ← s .1) (turned _ _ c t)
 newest-in c (next-pair b n l) t = newest-in c l (in-trans _ _ c n t)
