@@ -1,16 +1,16 @@
 -- The doubles of a line, read one after the other.
-use Prim.Native.Nat.{ℕ, zero, suc, _+_, _-_, _≤_, _<_}
+use Prim.Native.Nat.{ℕ, suc, _+_, _-_, _≤_, _<_}
 use native.Mathlib.Numerals.{add-one}
 use native.Mathlib.Omega.{arith}
-use mathlib.Core.Bool.{Bool, true, false}
-use mathlib.Core.List.{List, [], _∷_, _++_, append-assoc, append-nil}
-use mathlib.Core.Path.{_≡_, refl, sym, ap, _∙_}
+use mathlib.Core.Bool.{false}
+use mathlib.Core.List.{List, [], _++_, append-assoc, append-nil}
+use mathlib.Core.Path.{_≡_, sym, ap, _∙_}
 use lib.ListN.{length, take, drop, set, length-set}
 use lib.Seq.{take-suc-set}
 use lib.Ieee.{Float, binary64, ofBits}
 use Rattle.lines.specs.Digits.{wordOf}
-use Rattle.lines.specs.Fields.{fieldOf, restOf, Field}
-use Rattle.lines.specs.Calls.{past, allWords, doublesOf, FilledTo, Filled}
+use Rattle.lines.specs.Fields.{fieldOf, Field}
+use Rattle.lines.specs.Calls.{past, allWords, doublesOf, FilledTo}
 use Rattle.lines.specs.declared.fields.Span.{Span}
 use Rattle.lines.specs.declared.digits.Number.{Number}
 use Rattle.lines.specs.declared.digits.Number.the-variants.{Is, Wrong}

@@ -1,18 +1,17 @@
 -- Digits read one after the other.
-use Prim.Native.Nat.{ℕ, suc, _+_, _-_, _*_, _/_, _^_, _≤_, _<_}
+use Prim.Native.Nat.{ℕ, _+_, _-_, _*_, _/_, _^_, _≤_, _<_}
 use native.Mathlib.Nat.{le-div-iff-mul-le, div-lt-iff-lt-mul, mul-le-mul-left}
 use native.Mathlib.Numerals.{add-one}
 use native.Mathlib.Omega.{arith}
-use mathlib.Core.Bool.{Bool, true, false, cond, _&&_, and-false}
+use mathlib.Core.Bool.{and-false}
 use mathlib.Core.List.{List, [], _∷_}
-use mathlib.Core.Path.{_≡_, refl, sym, _∙_}
-use lib.Dec.{ltb}
+use mathlib.Core.Path.{_≡_, sym, _∙_}
 use mir.Syntax.{w64}
 use mir.Val.{Fits}
 use lib.ListN.{length, drop, getD}
 use lib.Seq.{drop-cons, drop-length}
 use borrow.Author.Tests.{lt-ltb, le-ltb}
-use Rattle.lines.specs.Digits.{digitOf, allDigits, valueFrom, numberFrom}
+use Rattle.lines.specs.Digits.{digitOf, valueFrom, numberFrom}
 use Rattle.lines.specs.declared.digits.Number.{Number}
 use Rattle.lines.specs.declared.digits.Number.the-variants.{Is, Wrong}
 

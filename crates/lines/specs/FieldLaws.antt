@@ -8,7 +8,6 @@ use lib.ListN.{length, take, drop, getD, length-drop, drop-of-length-le}
 use lib.Seq.{drop-cons, take-suc, getD-drop}
 use borrow.Author.Tests.{eq-eqb, ne-eqb}
 use Rattle.lines.specs.Fields.{skipped, untilSpace, fromSpace, fieldOf, restOf, Skipped, Ended, Field}
-use Rattle.lines.specs.declared.fields.Span.{Span}
 
 -- nothing is left from the end on
 none : (s : List ℕ) (i : ℕ) → length s ≤ i → drop i s ≡ []

@@ -9,4 +9,6 @@ pub mod ReadingLaws
 pub mod Texts
 pub mod TextLaws
 pub mod ReplyLaws
-pub mod States
+pub mod Inputs
+pub mod InputLaws
+pub mod Examples

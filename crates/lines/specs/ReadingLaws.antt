@@ -1,18 +1,18 @@
 -- A line read field by field.
-use Prim.Native.Nat.{ℕ, zero, suc, _+_, _-_, _≤_, _<_}
+use Prim.Native.Nat.{ℕ, _+_, _-_, _≤_, _<_}
 use native.Mathlib.Omega.{arith}
 use mathlib.Core.Bool.{Bool, true, false, cond}
-use mathlib.Core.List.{List, [], _∷_, _++_}
+use mathlib.Core.List.{List}
 use mathlib.Core.Path.{_≡_, refl, sym, ap, _∙_}
-use lib.Dec.{eqb, ltb}
-use lib.ListN.{length, take, drop, getD, length-take, length-drop}
+use lib.Dec.{eqb}
+use lib.ListN.{length, take, drop, getD, length-drop}
 use lib.Seq.{take-take, getD-take, length-take-le}
 use lib.Ieee.{Float, nan}
 use borrow.Author.Tests.{eq-eqb, ne-eqb, lt-ltb, le-ltb}
 use Rattle.roots.specs.declared.Method.{Method}
 use Rattle.lines.specs.Digits.{decimalOf}
 use Rattle.lines.specs.Fields.{fieldOf, restOf, Field}
-use Rattle.lines.specs.Calls.{allWords, doublesOf, past, FilledTo, Filled, methodNumber, startsOf, methodOf, Asked, call, no-call, limited, withLimit, doubles, withDoubles, counted, withCount, askedOf, countOf, askedBy, Reads}
+use Rattle.lines.specs.Calls.{allWords, past, FilledTo, Filled, methodNumber, startsOf, methodOf, Asked, no-call, limited, withLimit, doubles, withDoubles, counted, withCount, askedOf, Reads}
 use Rattle.lines.specs.declared.fields.Span.{Span}
 use Rattle.lines.specs.declared.digits.Number.{Number}
 use Rattle.lines.specs.declared.digits.Number.the-variants.{Is, Wrong}

@@ -1,16 +1,16 @@
 -- A line's reply.
-use Prim.Native.Nat.{ℕ, zero, suc, _+_, _-_, _≤_, _<_}
+use Prim.Native.Nat.{ℕ, _-_, _≤_}
 use native.Mathlib.Omega.{arith}
 use mathlib.Core.Bool.{Bool, true, false}
 use mathlib.Core.List.{List, [], _∷_}
-use mathlib.Core.Path.{_≡_, refl, sym, ap, _∙_}
+use mathlib.Core.Path.{_≡_, refl, sym}
 use lib.ListN.{length, take, getD}
 use lib.Seq.{take-length, length-take-le}
 use lib.Ieee.{Float}
 use borrow.Author.Tests.{eq-eqb, ne-eqb}
 use Rattle.numerical.specs.declared.Outcome.{Outcome}
 use Rattle.roots.specs.Calls.{answer}
-use Rattle.lines.specs.Calls.{Asked, call, no-call, askedOf, askedBy, Reads}
+use Rattle.lines.specs.Calls.{Asked, askedOf, askedBy, Reads}
 use Rattle.lines.specs.Texts.{bytes, textOf, reasonText, replied, trimmed, replyTo, lineReply, Put}
 use Rattle.lines.specs.declared.call.Call.{Call}
 use Rattle.lines.specs.declared.call.Reason.{Reason}

@@ -1,19 +1,17 @@
 -- Texts put one after the other.
-use Prim.Native.Nat.{ℕ, zero, suc, _+_, _-_, _*_, _/_, _%_, _^_, _≤_, _<_}
+use Prim.Native.Nat.{ℕ, zero, suc, _+_, _-_, _/_, _^_, _≤_, _<_}
 use native.Mathlib.Numerals.{add-one}
 use native.Mathlib.Omega.{arith}
-use mathlib.Core.Bool.{Bool, true, false, cond}
 use mathlib.Core.List.{List, [], _∷_, _++_, append-assoc, append-nil}
 use mathlib.Core.Path.{_≡_, refl, sym, ap, _∙_}
-use mathlib.Core.Logic.{_⊎_, inl, inr}
-use lib.ListN.{length, take, drop, getD, set, length-append, length-set, length-take}
-use lib.Seq.{paste, paste-zero, paste-suc, take-paste, length-paste, take-suc-set, take-length}
+use mathlib.Core.Logic.{inl, inr}
+use lib.ListN.{length, take, getD, set, length-append, length-set}
+use lib.Seq.{paste, paste-zero, paste-suc, take-paste, take-suc-set, take-length}
 use native.Mathlib.Nat.{pow-suc, pow-le-pow-right, eq-zero-or-pos, div-lt-iff-lt-mul, le-div-iff-mul-le}
 use borrow.Author.Tests.{lt-ltb, le-ltb}
 use Rattle.io.specs.Digits.{digits, Fewest}
 use Rattle.lines.specs.Texts.{Put, spelled, decimalText, hexText, decimalField, doubleField, numbersText, progressText, textOf, reasonText}
 use Rattle.lines.specs.declared.call.Reason.{Reason}
-use Rattle.lines.specs.declared.call.Reason.the-variants as reason
 use Rattle.numerical.specs.Answers.{kindOf, numbersOf}
 use Rattle.numerical.specs.declared.Answer.{Answer}
 use Rattle.numerical.specs.declared.Answer.the-variants.{ByValue, ByWidth, Refused}

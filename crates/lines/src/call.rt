@@ -99,7 +99,7 @@ fn method_of(m: u8, p: f64, q: f64) -> Method
 
 // The limit at `at`, behind which nothing may follow; a holds the doubles.
 fn with_limit(s: &[u8], at: usize, m: u8, count: usize, a: &[f64]) -> Reading
-    requires { ⌜ (at ≤ length (now s)) × (count ≤ 40) × (count + 3 ≤ length (now a)) ⌝ }
+    requires { ⌜ (at ≤ length (now s)) × (count + 3 ≤ length (now a)) ⌝ }
     ensures { λ r. ⌜ Reads (withLimit m count (now (a .entry)) (drop at (now (s .entry)))) (now (a .entry)) r ⌝ }
 {
     let f = fields::next(s, at);
@@ -151,7 +151,7 @@ fn with_count(s: &[u8], at: usize, m: u8, a: &mut [f64]) -> Reading
     with_doubles(s, to, m, count as usize, a)
 }
 
-// What the line asks for, with the coefficients in a.
+// What the line asks for, with the coefficients in a, which holds up to 40 of them, two starts and eps.
 pub fn read(s: &[u8], a: &mut [f64]) -> Reading
     requires { ⌜ 43 ≤ length (now a) ⌝ }
     ensures { λ r. ⌜ Reads (askedOf (now (s .entry))) (now (a .exit)) r ⌝ }

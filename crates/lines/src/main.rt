@@ -2,129 +2,81 @@
 //
 // In: METHOD COUNT A0 .. START [START] EPS LIMIT, with a space or more between two fields. METHOD is 1 Brent, 2 Illinois,
 // 3 secant, 4 Newton, which has one start, 5 polynomial search. COUNT, up to 40, and LIMIT are decimal, doubles the 16
-// hexadecimal digits of their bits. Out: KIND NUMBERS.. STEPS VALUES DERIVATIVES MARK, or `error` and a reason.
+// hexadecimal digits of their bits. A carriage return may stand before the line feed, and the last line may lack both.
+//
+// Out: KIND NUMBERS.. STEPS VALUES DERIVATIVES MARK. KIND is 0 by value, with the root and its value, 1 by width, with the
+// root and two points, otherwise 10 plus the refusal's number. What is not a call gets `error` and the first reason of
+// empty, method, count, number, limit, trailing; a line of more than 1,024 bytes gets `error too long`.
 mod bits;
 mod call;
 mod digits;
 mod fields;
+mod input;
 mod reply;
 mod text;
 
-ghost use mathlib.Core.Path.{_≡_};
-ghost use Prim.Native.Nat.{_≤_};
-ghost use lib.ListN.{length};
-ghost use Rattle.lines.specs.States.{Fine};
+ghost use Rattle.lines.specs.Inputs.{Idle, Begun};
+use input::State;
 use libc::STDIN_FILENO;
 use libc::STDOUT_FILENO;
 
-// Where things stand between two bytes of the input.
-struct State {
-    // How many bytes of the present line are kept, and whether there were more than can be.
-    kept: usize,
-    is_long: bool,
-    // How many bytes of replies wait to be written.
-    waiting: usize,
-    // Whether to go on: there may be more to read, and the replies could be written.
+// Where things stand between two blocks, and whether to go on.
+struct Turn {
+    state: State,
     is_open: bool,
 }
 
-// Writes the replies that wait.
-fn sent(out: &[u8], s: State) -> State
-    requires { ⌜ s .waiting ≤ length (now out) ⌝ }
-    ensures { λ r. ⌜ (r .kept ≡ s .kept) × (r .waiting ≡ 0) ⌝ }
-{
-    let waiting = s.waiting;
-    let is_written = io::write_all(STDOUT_FILENO, &out[..waiting]);
-    State {
-        kept: s.kept,
-        is_long: s.is_long,
-        waiting: 0,
-        is_open: s.is_open && is_written,
-    }
-}
-
-// At a line's end: its reply, and then an empty line.
-fn ended(line: &[u8], out: &mut [u8], s: State) -> State
-    requires { ⌜ Fine (now line) (now out) s ⌝ }
-    ensures { λ r. ⌜ Fine (now (line .entry)) (now (out .exit)) r ⌝ }
-{
-    let kept = s.kept;
-    let waiting = reply::put_line(&line[..kept], s.is_long, out, s.waiting);
-    let next = State {
-        kept: 0,
-        is_long: false,
-        waiting,
-        is_open: s.is_open,
-    };
-    if waiting <= out.len() - 156 {
-        next
-    } else {
-        sent(out, next)
-    }
-}
-
-// One more byte of the input.
-fn taken(line: &mut [u8], out: &mut [u8], s: State, b: u8) -> State
-    requires { ⌜ Fine (now line) (now out) s ⌝ }
-    ensures { λ r. ⌜ Fine (now (line .exit)) (now (out .exit)) r ⌝ }
-{
-    if b == b'\n' {
-        return ended(line, out, s);
-    }
-    let kept = s.kept;
-    if kept < line.len() {
-        line[kept] = b;
-        State {
-            kept: kept + 1,
-            is_long: s.is_long,
-            waiting: s.waiting,
-            is_open: s.is_open,
-        }
-    } else {
-        State {
-            kept,
-            is_long: true,
-            waiting: s.waiting,
-            is_open: s.is_open,
-        }
-    }
-}
-
-// A block of the input.
-fn fed(block: &[u8], line: &mut [u8], out: &mut [u8], start: State) -> State
-    requires { ⌜ Fine (now line) (now out) start ⌝ }
-    ensures { λ r. ⌜ Fine (now (line .exit)) (now (out .exit)) r ⌝ }
+// Answers the lines of a block. Each time the replies have filled their buffer they are written.
+fn answered(block: &[u8], line: &mut [u8], out: &mut [u8], start: State) -> Turn
+    requires { ⌜ Idle (now line) (now out) start ⌝ }
+    ensures { λ r. ⌜ Idle (now (line .exit)) (now (out .exit)) (r .state) ⌝ }
+    ensures { λ r. ⌜ Begun (now (block .entry)) (now (line .entry)) start (now (line .exit)) r ⌝ }
 {
     let mut s = start;
-    let mut i = 0;
-    while i < block.len() {
-        s = taken(line, out, s, block[i]);
-        i += 1;
+    let mut at = 0;
+    while at < block.len() {
+        let p = input::fed(block, at, line, out, s);
+        let waiting = p.state.waiting;
+        let is_written = io::write_all(STDOUT_FILENO, &out[..waiting]);
+        s = State {
+            kept: p.state.kept,
+            is_long: p.state.is_long,
+            waiting: 0,
+        };
+        if !is_written {
+            return Turn {
+                state: s,
+                is_open: false,
+            };
+        }
+        at = p.at;
     }
-    s
+    Turn {
+        state: s,
+        is_open: true,
+    }
 }
 
 // At the input's end: the last line may lack its line feed.
-fn closed(line: &[u8], out: &mut [u8], s: State) -> State
-    requires { ⌜ Fine (now line) (now out) s ⌝ }
-    ensures { λ r. ⌜ Fine (now (line .entry)) (now (out .exit)) r ⌝ }
+fn closed(line: &[u8], out: &mut [u8], s: State) -> Turn
+    requires { ⌜ Idle (now line) (now out) s ⌝ }
+    ensures { λ r. ⌜ Idle (now (line .entry)) (now (out .exit)) (r .state) ⌝ }
 {
-    if 0 < s.kept {
-        let r = ended(line, out, s);
-        sent(out, r);
+    let kept = s.kept;
+    if 0 < kept {
+        let end = reply::put_line(&line[..kept], s.is_long, out, 0);
+        io::write_all(STDOUT_FILENO, &out[..end]);
     }
-    State {
-        kept: 0,
-        is_long: false,
-        waiting: 0,
+    Turn {
+        state: s,
         is_open: false,
     }
 }
 
-// Reads a block, and answers its lines.
-fn turn(line: &mut [u8], out: &mut [u8], s: State) -> State
-    requires { ⌜ Fine (now line) (now out) s ⌝ }
-    ensures { λ r. ⌜ Fine (now (line .exit)) (now (out .exit)) r ⌝ }
+// Reads a block and answers its lines.
+fn read_block(line: &mut [u8], out: &mut [u8], s: State) -> Turn
+    requires { ⌜ Idle (now line) (now out) s ⌝ }
+    ensures { λ r. ⌜ Idle (now (line .exit)) (now (out .exit)) (r .state) ⌝ }
 {
     let mut block = io::large_buffer();
     let got = libc::read(STDIN_FILENO, &mut block);
@@ -132,8 +84,7 @@ fn turn(line: &mut [u8], out: &mut [u8], s: State) -> State
         return closed(line, out, s);
     }
     let n = io::count(got, &block);
-    let r = fed(&block[..n], line, out, s);
-    sent(out, r)
+    answered(&block[..n], line, out, s)
 }
 
 // A proved loop has to end, and nothing says that the input does: so the turns are counted down, from a number that no
@@ -145,11 +96,13 @@ fn main() {
         kept: 0,
         is_long: false,
         waiting: 0,
-        is_open: true,
     };
+    let mut is_open = true;
     let mut turns = u64::MAX;
-    while turns > 0 && s.is_open {
-        s = turn(&mut line, &mut out, s);
+    while turns > 0 && is_open {
+        let t = read_block(&mut line, &mut out, s);
+        s = t.state;
+        is_open = t.is_open;
         turns -= 1;
     }
 }

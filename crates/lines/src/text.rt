@@ -103,7 +103,7 @@ fn put_progress(out: &mut [u8], at: usize, progress: Progress) -> usize
     put_decimal(out, k, progress.mark as u64, b'\n')
 }
 
-// A line for an outcome.
+// A line for an outcome: three doubles of 17 bytes and five numbers of 21 at most, each with the byte after it.
 pub fn put_outcome(out: &mut [u8], at: usize, outcome: Outcome) -> usize
     requires { ⌜ at + 156 ≤ length (now out) ⌝ }
     ensures { λ r. ⌜ Put (now (out .entry)) at (textOf outcome) (now (out .exit)) r ⌝ }

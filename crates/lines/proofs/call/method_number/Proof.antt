@@ -1,35 +1,27 @@
+use borrow.Author.Needs.{needs}
 use Rattle.numerical.specs.Choices.{choices}
 use Rattle.lines.specs.Calls.{methodNumber}
-use borrow.Author.Needs.{needs}
 use Rattle.lines.proofs.call.method_number.Statement.{statement}
 use Rattle.lines.proofs.call.method_number.Tie as tie
-use Rattle.lines.proofs.call.method_number.Reads as reads
-use Rattle.lines.proofs.call.method_number.Lts as lts
 
--- src/call.rt:67:17
 shared-slice-read-b : tie.Need-shared-slice-read-b
 shared-slice-read-b c = search needs
 
--- src/call.rt:69:28
 sub-result : tie.Need-sub-result
 sub-result c = search needs
 
--- src/call.rt:63:1
 returns : tie.Need-returns
 unfolding methodNumber
 returns c = search choices
 
--- src/call.rt:63:1
 returns-2 : tie.Need-returns-2
 unfolding methodNumber
 returns-2 c = search choices
 
--- src/call.rt:63:1
 returns-3 : tie.Need-returns-3
 unfolding methodNumber
 returns-3 c = search choices
 
--- src/call.rt:63:1
 returns-4 : tie.Need-returns-4
 unfolding methodNumber
 returns-4 c = search choices

@@ -2,30 +2,23 @@ use Rattle.numerical.specs.Choices.{choices}
 use Rattle.lines.specs.Calls.{methodOf}
 use Rattle.lines.proofs.call.method_of.Statement.{statement}
 use Rattle.lines.proofs.call.method_of.Tie as tie
-use Rattle.lines.proofs.call.method_of.Reads as reads
-use Rattle.lines.proofs.call.method_of.Lts as lts
 
--- src/call.rt:88:1
 returns : tie.Need-returns
 unfolding methodOf
 returns c = search choices depth 9
 
--- src/call.rt:88:1
 returns-2 : tie.Need-returns-2
 unfolding methodOf
 returns-2 c = rw (c .match .keys2)
 
--- src/call.rt:88:1
 returns-3 : tie.Need-returns-3
 unfolding methodOf
 returns-3 c = rw (c .match .keys3)
 
--- src/call.rt:88:1
 returns-4 : tie.Need-returns-4
 unfolding methodOf
 returns-4 c = rw (c .match .keys4)
 
--- src/call.rt:88:1
 returns-5 : tie.Need-returns-5
 unfolding methodOf
 returns-5 c = search choices depth 9

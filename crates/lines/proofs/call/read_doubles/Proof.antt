@@ -5,11 +5,6 @@ use lib.ListN.{length}
 use Rattle.lines.specs.CallLaws.{Filling, fill-starts, fill-wrong, fill-on, fill-done}
 use Rattle.lines.proofs.call.read_doubles.Statement.{statement}
 use Rattle.lines.proofs.call.read_doubles.Tie as tie
-use Rattle.lines.proofs.call.read_doubles.Reads as reads
-use Rattle.lines.proofs.call.read_doubles.Lts as lts
-use Rattle.lines.proofs.bits.double.Reads as double-reads
-use Rattle.lines.proofs.digits.word.Reads as word-reads
-use Rattle.lines.proofs.fields.next.Reads as next-reads
 
 abbrev Inv-loop : tie.InvT-loop
 Inv-loop s at k a₀ p₀ i₀ a p i = (length a ≡ length a₀) × Filling s at k a p i
@@ -17,75 +12,57 @@ Inv-loop s at k a₀ p₀ i₀ a p i = (length a ≡ length a₀) × Filling s a
 abbrev μ-loop : tie.MeasureT-loop
 μ-loop s at k a₀ p₀ i₀ a p i = k - i
 
--- src/call.rt:48:5
 loop-holds : tie.Need-loop-holds Inv-loop μ-loop
 loop-holds c = (refl, search fill-starts)
 
--- src/call.rt:49:13
 next-requires : tie.Need-next-requires Inv-loop μ-loop
 next-requires c κs = search needs
 
--- src/call.rt:52:42
 sub-word : tie.Need-sub-word Inv-loop μ-loop
 sub-word c = search needs
 
--- src/call.rt:52:42
 part-word-start : tie.Need-part-word-start Inv-loop μ-loop
 part-word-start c = search needs
 
--- src/call.rt:52:42
 part-word-end : tie.Need-part-word-end Inv-loop μ-loop
 part-word-end c = search needs
 
--- src/call.rt:52:29
 word-requires : tie.Need-word-requires Inv-loop μ-loop
 word-requires c κs = search needs
 
--- src/call.rt:52:24
 enum-known-n : tie.Need-enum-known-n Inv-loop μ-loop
 enum-known-n c = search needs
 
--- src/call.rt:53:13
 enum-told : tie.Need-enum-told Inv-loop μ-loop
 enum-told c = search needs
 
--- src/call.rt:53:13
 same-length : tie.Need-same-length Inv-loop μ-loop
 same-length c = search needs
 
--- src/call.rt:53:13
 returns : tie.Need-returns Inv-loop μ-loop
 returns c = search fill-wrong
 
--- src/call.rt:55:16
 double-requires : tie.Need-double-requires Inv-loop μ-loop
 double-requires c κs = search needs
 
--- src/call.rt:55:9
 mul-a : tie.Need-mul-a Inv-loop μ-loop
 mul-a c = search needs
 
--- src/call.rt:55:9
 slice-write-a : tie.Need-slice-write-a Inv-loop μ-loop
 slice-write-a c = search needs
 
--- src/call.rt:57:9
 add-i : tie.Need-add-i Inv-loop μ-loop
 add-i c = search needs
 
--- src/call.rt:48:5
 loop-less : tie.Need-loop-less Inv-loop μ-loop
 loop-less c = search needs
 
--- src/call.rt:48:5
 loop-again : tie.Need-loop-again Inv-loop μ-loop
 loop-again c = (search needs, search fill-on)
 
--- src/call.rt:42:1
 same-length-2 : tie.Need-same-length-2 Inv-loop μ-loop
 same-length-2 c = search needs
 
--- src/call.rt:42:1
 returns-2 : tie.Need-returns-2 Inv-loop μ-loop
 returns-2 c = search fill-done
 

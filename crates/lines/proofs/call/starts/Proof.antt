@@ -3,15 +3,11 @@ use Rattle.numerical.specs.Choices.{choices}
 use Rattle.lines.specs.Calls.{startsOf}
 use Rattle.lines.proofs.call.starts.Statement.{statement}
 use Rattle.lines.proofs.call.starts.Tie as tie
-use Rattle.lines.proofs.call.starts.Reads as reads
-use Rattle.lines.proofs.call.starts.Lts as lts
 
--- src/call.rt:81:1
 returns : tie.Need-returns
 unfolding startsOf
 returns c = (search choices, search needs)
 
--- src/call.rt:81:1
 returns-2 : tie.Need-returns-2
 unfolding startsOf
 returns-2 c = (search choices, search needs)

@@ -3,60 +3,46 @@ use Rattle.numerical.specs.Choices.{choices}
 use Rattle.lines.specs.Digits.{digitOf}
 use Rattle.lines.proofs.digits.digit.Statement.{statement}
 use Rattle.lines.proofs.digits.digit.Tie as tie
-use Rattle.lines.proofs.digits.digit.Reads as reads
-use Rattle.lines.proofs.digits.digit.Lts as lts
 
--- src/digits.rt:17:24
 cast-result : tie.Need-cast-result
 cast-result c = search needs
 
--- src/digits.rt:18:24
 cast-result-2 : tie.Need-cast-result-2
 cast-result-2 c = search needs
 
--- src/digits.rt:18:24
 add-result : tie.Need-add-result
 add-result c = search needs
 
--- src/digits.rt:19:24
 cast-result-3 : tie.Need-cast-result-3
 cast-result-3 c = search needs
 
--- src/digits.rt:19:24
 add-result-2 : tie.Need-add-result-2
 add-result-2 c = search needs
 
--- src/digits.rt:13:1
 returns : tie.Need-returns
 unfolding digitOf
 returns c = search choices depth 9
 
--- src/digits.rt:13:1
 returns-2 : tie.Need-returns-2
 unfolding digitOf
 returns-2 c = search choices depth 9
 
--- src/digits.rt:13:1
 returns-3 : tie.Need-returns-3
 unfolding digitOf
 returns-3 c = search choices depth 9
 
--- src/digits.rt:13:1
 returns-4 : tie.Need-returns-4
 unfolding digitOf
 returns-4 c = search choices depth 9
 
--- src/digits.rt:13:1
 returns-5 : tie.Need-returns-5
 unfolding digitOf
 returns-5 c = search choices depth 9
 
--- src/digits.rt:13:1
 returns-6 : tie.Need-returns-6
 unfolding digitOf
 returns-6 c = search choices depth 9
 
--- src/digits.rt:13:1
 returns-7 : tie.Need-returns-7
 unfolding digitOf
 returns-7 c = search choices depth 9

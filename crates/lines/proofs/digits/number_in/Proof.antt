@@ -7,9 +7,6 @@ use Rattle.lines.specs.Digits.{numberFrom}
 use Rattle.lines.specs.DigitLaws.{next-held, next-fits, times-fits, number-on, number-no-digit, number-too-large, number-end}
 use Rattle.lines.proofs.digits.number_in.Statement.{statement}
 use Rattle.lines.proofs.digits.number_in.Tie as tie
-use Rattle.lines.proofs.digits.number_in.Reads as reads
-use Rattle.lines.proofs.digits.number_in.Lts as lts
-use Rattle.lines.proofs.digits.digit.Reads as digit-reads
 
 abbrev Inv-loop : tie.InvT-loop
 Inv-loop base t v₀ i₀ v i = (i ≤ length t) × (v < 2 ^ 64) × (numberFrom base v (drop i t) ≡ numberFrom base 0 t)

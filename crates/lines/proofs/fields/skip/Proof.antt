@@ -7,8 +7,6 @@ use Rattle.lines.specs.Fields.{skipped}
 use Rattle.lines.specs.FieldLaws.{skip-on, skip-stop, skip-end}
 use Rattle.lines.proofs.fields.skip.Statement.{statement}
 use Rattle.lines.proofs.fields.skip.Tie as tie
-use Rattle.lines.proofs.fields.skip.Reads as reads
-use Rattle.lines.proofs.fields.skip.Lts as lts
 
 abbrev Inv-loop : tie.InvT-loop
 Inv-loop s at i₀ i = (i ≤ length s) × (skipped (drop i s) ≡ skipped (drop at s))
@@ -16,31 +14,24 @@ Inv-loop s at i₀ i = (i ≤ length s) × (skipped (drop i s) ≡ skipped (drop
 abbrev μ-loop : tie.MeasureT-loop
 μ-loop s at i₀ i = length s - i
 
--- src/fields.rt:18:5
 loop-holds : tie.Need-loop-holds Inv-loop μ-loop
 loop-holds c = (search needs, refl)
 
--- src/fields.rt:19:12
 shared-slice-read-if1 : tie.Need-shared-slice-read-if1 Inv-loop μ-loop
 shared-slice-read-if1 c = omega arith
 
--- src/fields.rt:20:13
 returns : tie.Need-returns Inv-loop μ-loop
 returns c = search skip-stop
 
--- src/fields.rt:22:9
 add-i : tie.Need-add-i Inv-loop μ-loop
 add-i c = omega arith
 
--- src/fields.rt:18:5
 loop-less : tie.Need-loop-less Inv-loop μ-loop
 loop-less c = omega arith
 
--- src/fields.rt:18:5
 loop-again : tie.Need-loop-again Inv-loop μ-loop
 loop-again c = (omega arith, search skip-on)
 
--- src/fields.rt:13:1
 returns-2 : tie.Need-returns-2 Inv-loop μ-loop
 returns-2 c = search skip-end
 

@@ -1,39 +1,29 @@
-use Rattle.lines.specs.TextLaws.{kind-refused}
 use borrow.Author.Needs.{needs}
+use Rattle.lines.specs.TextLaws.{kind-refused}
 use Rattle.lines.proofs.text.kind.Statement.{statement}
 use Rattle.lines.proofs.text.kind.Tie as tie
-use Rattle.lines.proofs.text.kind.Reads as reads
-use Rattle.lines.proofs.text.kind.Lts as lts
 
--- src/text.rt:64:50
 enum-told : tie.Need-enum-told
 enum-told c = search needs
 
--- src/text.rt:65:52
 enum-told-2 : tie.Need-enum-told-2
 enum-told-2 c = search needs
 
--- src/text.rt:66:25
 enum-known-answer : tie.Need-enum-known-answer
 enum-known-answer c = search needs
 
--- src/text.rt:66:41
 cast-result : tie.Need-cast-result
 cast-result c = search needs
 
--- src/text.rt:66:36
 add-result : tie.Need-add-result
 add-result c = search needs
 
--- src/text.rt:60:1
 returns : tie.Need-returns
 returns c = search needs
 
--- src/text.rt:60:1
 returns-2 : tie.Need-returns-2
 returns-2 c = search needs
 
--- src/text.rt:60:1
 returns-3 : tie.Need-returns-3
 returns-3 c = search kind-refused
 

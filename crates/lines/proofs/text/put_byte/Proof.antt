@@ -1,23 +1,17 @@
-use Rattle.lines.specs.TextLaws.{put-one}
 use borrow.Author.Needs.{needs}
+use Rattle.lines.specs.TextLaws.{put-one}
 use Rattle.lines.proofs.text.put_byte.Statement.{statement}
 use Rattle.lines.proofs.text.put_byte.Tie as tie
-use Rattle.lines.proofs.text.put_byte.Reads as reads
-use Rattle.lines.proofs.text.put_byte.Lts as lts
 
--- src/text.rt:30:5
 slice-write-out : tie.Need-slice-write-out
 slice-write-out c = search needs
 
--- src/text.rt:31:5
 add-result : tie.Need-add-result
 add-result c = search needs
 
--- src/text.rt:26:1
 same-length : tie.Need-same-length
 same-length c = search needs
 
--- src/text.rt:26:1
 returns : tie.Need-returns
 returns c = search put-one
 

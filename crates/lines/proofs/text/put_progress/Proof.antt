@@ -1,36 +1,26 @@
-use Rattle.lines.specs.TextLaws.{progress-put}
 use borrow.Author.Needs.{needs}
+use Rattle.lines.specs.TextLaws.{progress-put}
 use Rattle.lines.proofs.text.put_progress.Statement.{statement}
 use Rattle.lines.proofs.text.put_progress.Tie as tie
-use Rattle.lines.proofs.text.put_progress.Reads as reads
-use Rattle.lines.proofs.text.put_progress.Lts as lts
-use Rattle.lines.proofs.text.put_decimal.Reads as put-decimal-reads
 
--- src/text.rt:96:9
 put-decimal-requires : tie.Need-put-decimal-requires
 put-decimal-requires c κs = search needs
 
--- src/text.rt:97:9
 put-decimal-requires-2 : tie.Need-put-decimal-requires-2
 put-decimal-requires-2 c κs = search needs
 
--- src/text.rt:98:9
 put-decimal-requires-3 : tie.Need-put-decimal-requires-3
 put-decimal-requires-3 c κs = search needs
 
--- src/text.rt:99:25
 cast-put-decimal : tie.Need-cast-put-decimal
 cast-put-decimal c = search needs
 
--- src/text.rt:99:5
 put-decimal-requires-4 : tie.Need-put-decimal-requires-4
 put-decimal-requires-4 c κs = search needs
 
--- src/text.rt:91:1
 same-length : tie.Need-same-length
 same-length c = search needs
 
--- src/text.rt:91:1
 returns : tie.Need-returns
 returns c = (search progress-put, search needs)
 
