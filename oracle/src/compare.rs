@@ -1,5 +1,7 @@
-// Holds a program that speaks the line protocol against the published Rust. See README.md.
+// Holds a program that speaks the line protocol, or the proved archive in this process, against the published Rust. See README.md.
 
+#[cfg(archive)]
+mod archive;
 mod call;
 mod families;
 #[path = "../model.rs"]
@@ -35,6 +37,9 @@ struct Options {
     batch: usize,
     file: Option<String>,
     small: bool,
+    // The archive answers, which is linked into this program, in place of a tool.
+    #[cfg_attr(not(archive), allow(dead_code))]
+    archive: bool,
 }
 
 fn usage() -> ! {
@@ -42,6 +47,7 @@ fn usage() -> ! {
     eprintln!("       compare --small [--line-tool PATH] [--rust-only] [--batch N]");
     eprintln!("       compare --file PATH [--line-tool PATH] [--rust-only]");
     eprintln!("       compare --store COUNT SEED FOLDER");
+    eprintln!("       --archive in place of --line-tool PATH where in-process has linked one");
     std::process::exit(2);
 }
 
@@ -55,6 +61,7 @@ fn options() -> Options {
         batch: 20_000,
         file: None,
         small: false,
+        archive: false,
     };
     let mut plain = Vec::new();
     let mut rust_only = false;
@@ -65,6 +72,7 @@ fn options() -> Options {
                 chosen.tool = words.next().unwrap_or_else(|| usage());
                 chosen.with_model = true;
             }
+            "--archive" if cfg!(archive) => (chosen.archive, chosen.with_model) = (true, true),
             "--batch" => chosen.batch = words.next().and_then(|n| n.parse().ok()).filter(|n| *n > 0).unwrap_or_else(|| usage()),
             "--rust-only" => rust_only = true,
             "--small" => chosen.small = true,
@@ -218,10 +226,19 @@ fn as_lines(calls: &[Call]) -> String {
     calls.iter().map(|c| c.line() + "\n").collect()
 }
 
+// What the tool or the archive answers, and what is made meanwhile.
+fn answered<T>(options: &Options, calls: &[Call], meanwhile: impl FnOnce() -> T) -> Result<(Vec<String>, T), String> {
+    #[cfg(archive)]
+    if options.archive {
+        return Ok((calls.iter().map(archive::answer).collect(), meanwhile()));
+    }
+    ask(&options.tool, as_lines(calls), meanwhile)
+}
+
 // For each call the reason why the answer is wrong, if it is, and the answer.
 fn judge(options: &Options, calls: &[Call]) -> Vec<(Option<String>, String)> {
     let asked = || calls.iter().map(asked_for).collect::<Vec<_>>();
-    let (answers, asked) = ask(&options.tool, as_lines(calls), asked).unwrap_or_else(|reason| {
+    let (answers, asked) = answered(options, calls, asked).unwrap_or_else(|reason| {
         eprintln!("compare: {reason}");
         std::process::exit(2);
     });
