@@ -1,9 +1,9 @@
 -- Each answer of Newton's method has its reason in the history, which has no mark.
-use Prim.Native.Nat.{ℕ, _+_, _-_, _≤_, max}
+use Prim.Native.Nat.{ℕ, zero, suc, _+_, _-_, max}
 use native.Mathlib.Omega.{arith}
 use mathlib.Core.Bool.{Bool, true, false, cond}
 use mathlib.Core.List.{List, []}
-use mathlib.Core.Path.{_≡_, refl, ap, sym}
+use mathlib.Core.Path.{_≡_, refl, subst}
 use lib.Ieee.{Float}
 use lib.Ieee.Scale.{finite}
 use Rattle.numerical.specs.declared.Answer.{Answer}
@@ -12,11 +12,11 @@ use Rattle.simple_convergency.specs.declared.StopRule.{StopRule}
 use Rattle.polynom.specs.Polynom.{valueAndDerivative, evaluatedBoth}
 use Rattle.polynom.specs.declared.ValueAndDerivative.{ValueAndDerivative}
 use Rattle.polynom.specs.declared.EvaluatedBoth.the-variants.{Both, NotBothFinite}
-use Rattle.searching.specs.Programs.{oracle, Event, Prog, Turned, ended, next, run, searches}
+use Rattle.searching.specs.Programs.{oracle, Event, Prog, Turned}
 use Rattle.searching.specs.Histories.{stepsIn, markIn}
-use Rattle.searching.specs.Keeps.{Ends, After, ends-done, ends-test, ends-stops, ends-both, ends-offered, ends-steps, ends-run, ends-bind}
-use Rattle.searching.specs.Reasons.{True, noneHeld, Unmarked, Plain, by-value, by-width, of-flatness, of-limit, of-derivative, of-candidate}
-use Rattle.searching.specs.ReasonLaws.{answered-both, not-answered-both}
+use Rattle.searching.specs.Keeps.{Ends, After, ends-done, ends-test, ends-stops, ends-both, ends-offered, ends-steps, ends-searches}
+use Rattle.searching.specs.Reasons.{someEnds, True, Slope, derivative-at, Unmarked, Plain, by-value, by-width, of-flatness, of-derivative, of-candidate}
+use Rattle.searching.specs.ReasonLaws.{answered-both, not-answered-both, plain-on, plain-next, plain-going, plain-limit}
 use Rattle.newton_raphson.specs.NewtonRaphson.{landed, onward, laterAt, turnFrom, nudgedTo, nudge, firstAt, opening, turnsLeft, newtonProgram}
 use Rattle.newton_raphson.specs.declared.Spot.{Spot}
 
@@ -36,85 +36,91 @@ module _ (a : List Float) (stop : StopRule) (start : Float) where
   flatStart = foundAt stop (valueAndDerivative a start .derivative)
 
   -- the steps are the larger of 2 and the limit where the start is flat, and the larger of 1 and the limit otherwise
-  abbrev pub Reached : List Event → Type 0
-  Reached h = stepsIn h ≡ cond flatStart (max 2 (stop .limit)) (max 1 (stop .limit))
+  abbrev pub most : ℕ
+  most = cond flatStart (max 2 (stop .limit)) (max 1 (stop .limit))
 
   abbrev pub Post : Answer → List Event → Type 0
-  Post = Unmarked a stop Reached
+  Post = Unmarked a stop most
 
-  -- after k steps, of which the first is the nudge where the start is flat, and only there
-  record Inv (k : ℕ) (s : Spot) (h : List Event) : Type 0 where
-    plain : Plain k h
-    begun : 1 ≤ k
-    first : k ≡ 1 → s .nudged ≡ flatStart
+  abbrev Stands : ℕ → List Event → Type 0
+  Stands n h = Plain stop most n h
 
-  -- where no step was made yet, the start is not flat
-  abbrev Steep : ℕ → Type 0
-  Steep k = k ≡ 0 → flatStart ≡ false
+  -- with n steps left, and the point is finite
+  abbrev Inv : ℕ → Spot → List Event → Type 0
+  Inv n s h = Stands n h × (finite (s .x) ≡ true)
 
-  abbrev Reaches : ℕ → Prog (Turned Spot) → List Event → Type 0
-  Reaches k g h = Ends (oracle a) (After (Inv k) Post) g h
+  -- the steps left may depend on whether the start was nudged
+  abbrev Reaches : (Bool → ℕ) → Prog (Turned Spot) → List Event → Type 0
+  Reaches left g h = Ends (oracle a) (After (λ s h. Inv (left (s .nudged)) s h) Post) g h
 
   -- ---- a step
-  keeps-landed : (k : ℕ) (x x1 : Float) (h : List Event) → Steep k → Plain k h → Reaches (k + 1) (landed stop x x1) h
-  unfolding landed noneHeld stepsIn markIn
-  keeps-landed k x x1 h w i =
-      ends-stops stop _ (λ e. ends-done (record { reason = by-width e (i .quiet); unmarked = i .unmarked }))
-      (λ e. ends-steps _ (record { plain = record { steps = ap (λ (n : ℕ). n + 1) (i .steps); quiet = i .quiet; unmarked = i .unmarked }; begun = omega arith; first = λ z. sym (w (omega arith)) }))
+  module _ (left : Bool → ℕ) where
+    keeps-landed : (x x1 : Float) (h : List Event) → finite x1 ≡ true → Stands (suc (left false)) h → Reaches left (landed stop x x1) h
+    unfolding landed someEnds stepsIn markIn
+    keeps-landed x x1 h z i =
+        ends-stops stop _ (λ e. ends-done (record { reason = by-width z e (plain-going i); unmarked = i .unmarked }))
+        (λ e. ends-steps _ (plain-next (plain-on i refl (rw e refl) refl), z))
 
-  keeps-onward : (k : ℕ) (v : ValueAndDerivative) (h : List Event) → Steep k → Plain k h → Reaches (k + 1) (onward stop v) h
-  unfolding onward noneHeld stepsIn markIn
-  keeps-onward k v h w i =
-      ends-offered _ _ (λ n. record { reason = of-candidate n (i .quiet); unmarked = i .unmarked })
-      (λ n. keeps-landed k _ _ _ w (record { steps = i .steps; quiet = i .quiet; unmarked = i .unmarked }))
+    keeps-onward : (v : ValueAndDerivative) (h : List Event) → Stands (suc (left false)) h → Reaches left (onward stop v) h
+    unfolding onward someEnds stepsIn markIn
+    keeps-onward v h i =
+        ends-offered _ _ (λ c. record { reason = of-candidate c (plain-going i); unmarked = i .unmarked })
+        (λ c. keeps-landed _ _ _ c (plain-on i refl (rw c refl) refl))
 
-  keeps-later : (k : ℕ) (v : ValueAndDerivative) (h : List Event) → True a (v .value) → Steep k → Plain k h → Reaches (k + 1) (laterAt stop v) h
-  unfolding laterAt noneHeld stepsIn markIn
-  keeps-later k v h t w i =
-      ends-stops stop _ (λ e. ends-done (record { reason = by-value t e (i .quiet); unmarked = i .unmarked }))
-      (λ e. ends-stops stop _ (λ f. ends-done (record { reason = of-flatness f (i .quiet); unmarked = i .unmarked }))
-      (λ f. keeps-onward k v _ w (record { steps = i .steps; quiet = i .quiet; unmarked = i .unmarked })))
+    keeps-later : (v : ValueAndDerivative) (h : List Event) → True a (v .value) → Slope a (v .derivative) → Stands (suc (left false)) h → Reaches left (laterAt stop v) h
+    unfolding laterAt someEnds stepsIn markIn
+    keeps-later v h t d i =
+        ends-stops stop _ (λ e. ends-done (record { reason = by-value t e (plain-going i); unmarked = i .unmarked }))
+        (λ e. ends-stops stop _ (λ f. ends-done (record { reason = of-flatness d f (plain-going (plain-on i refl (rw e refl) refl)); unmarked = i .unmarked }))
+        (λ f. keeps-onward v _ (plain-on i refl (rw (e, f) refl) refl)))
 
-  keeps-turn : (k : ℕ) (s : Spot) (h : List Event) → Inv k s h → Reaches (k + 1) (turnFrom stop s) h
-  unfolding turnFrom noneHeld stepsIn markIn
-  keeps-turn k s h j =
-      let i = j .plain in
-      ends-both _ (λ n. record { reason = of-derivative (not-answered-both a _ n) (i .quiet); unmarked = i .unmarked })
-      (λ v n. keeps-later k v _ (answered-both a _ v n .is-true) (λ z. absurd (omega arith)) (record { steps = i .steps; quiet = i .quiet; unmarked = i .unmarked }))
+  keeps-turn : (n : ℕ) (s : Spot) (h : List Event) → Inv (suc n) s h → Reaches (λ nudged. n) (turnFrom stop s) h
+  unfolding turnFrom someEnds stepsIn markIn
+  keeps-turn n s h (i, z) =
+      ends-both _ (λ e. record { reason = of-derivative z (not-answered-both a _ e) (plain-going i); unmarked = i .unmarked })
+      (λ v e. keeps-later (λ nudged. n) v _ (answered-both a _ z v e .is-true) (rw (← both-computed a (s .x) v e) (derivative-at (s .x))) (plain-on i refl (rw z refl) refl))
 
   -- ---- the opening
-  keeps-nudge : (x : Float) (h : List Event) → flatStart ≡ true → Plain 0 h → Reaches 1 (nudge x) h
-  unfolding nudge nudgedTo noneHeld stepsIn markIn
-  keeps-nudge x h f i =
-      ends-offered _ _ (λ n. record { reason = of-candidate n (i .quiet); unmarked = i .unmarked })
-      (λ n. ends-steps _ (record { plain = record { steps = ap (λ (n : ℕ). n + 1) (i .steps); quiet = i .quiet; unmarked = i .unmarked }; begun = omega arith; first = λ z. sym f }))
 
-  keeps-first : (v : ValueAndDerivative) (h : List Event) → True a (v .value) → valueAndDerivative a start ≡ v → Plain 0 h → Reaches 1 (firstAt stop v) h
-  unfolding firstAt noneHeld stepsIn markIn
+  -- the passes left after it
+  abbrev left : Bool → ℕ
+  left nudged = cond nudged (max 1 (stop .limit - 1)) (stop .limit - 1)
+
+  -- it is the first pass of all
+  abbrev Opens : List Event → Type 0
+  Opens h = Stands (suc (left flatStart)) h
+
+  keeps-nudge : (x : Float) (h : List Event) → Stands (suc (left true)) h → Reaches left (nudge x) h
+  unfolding nudge nudgedTo someEnds stepsIn markIn
+  keeps-nudge x h i =
+      ends-offered _ _ (λ c. record { reason = of-candidate c (plain-going i); unmarked = i .unmarked })
+      (λ c. ends-steps _ (plain-next (plain-on i refl (rw c refl) refl), c))
+
+  keeps-first : (v : ValueAndDerivative) (h : List Event) → True a (v .value) → valueAndDerivative a start ≡ v → Opens h → Reaches left (firstAt stop v) h
+  unfolding firstAt someEnds stepsIn markIn
   keeps-first v h t e i =
-      ends-stops stop _ (λ f. ends-done (record { reason = by-value t f (i .quiet); unmarked = i .unmarked }))
-      (λ f. ends-test _ (λ g. keeps-nudge _ _ (rw e g) (record { steps = i .steps; quiet = i .quiet; unmarked = i .unmarked }))
-      (λ g. keeps-onward 0 v _ (λ z. rw e g) (record { steps = i .steps; quiet = i .quiet; unmarked = i .unmarked })))
-
-  keeps-opening : Reaches 1 (opening stop start) []
-  unfolding opening noneHeld stepsIn markIn
-  keeps-opening =
-      ends-both _ (λ n. record { reason = of-derivative (not-answered-both a _ n) refl; unmarked = refl })
-      (λ v n. keeps-first v _ (answered-both a _ v n .is-true) (both-computed a _ v n) (record { steps = refl; quiet = refl; unmarked = refl }))
-
-  -- ---- the passes left
-  keeps-passes : (r : Turned Spot) (h : List Event) → After (Inv 1) Post r h → Ends (oracle a) Post (run (turnFrom stop) (turnsLeft stop r) r) h
-  unfolding run
-  keeps-passes (ended answer) h q = ends-done q
-  keeps-passes (next s) h q =
-      ends-run (turnFrom stop) Inv Post (cond flatStart (max 2 (stop .limit)) (max 1 (stop .limit))) keeps-turn
-      (λ s h i. record { reason = of-limit (i .plain .steps) (i .plain .quiet); unmarked = i .plain .unmarked }) (turnsLeft stop (next s)) 1 (rw (q .first refl) (all flatStart)) (next s) h q
+      ends-stops stop _ (λ f. ends-done (record { reason = by-value t f (plain-going i); unmarked = i .unmarked }))
+      (λ f.
+      ends-test _ (λ g. keeps-nudge _ _ (plain-on (known true (rw e g)) refl (rw f refl) refl))
+      (λ g. keeps-onward left v _ (plain-on (known false (rw e g)) refl (rw f refl) refl)))
     where
-      all : (b : Bool) → 1 + cond b (max 1 (stop .limit - 1)) (stop .limit - 1) ≡ cond b (max 2 (stop .limit)) (max 1 (stop .limit))
+      known : (b : Bool) → flatStart ≡ b → Stands (suc (left b)) h
+      known b s = subst (λ (c : Bool). Stands (suc (left c)) h) s i
+
+  keeps-opening : finite start ≡ true → Reaches left (opening stop start) []
+  unfolding opening someEnds stepsIn markIn
+  keeps-opening z =
+      ends-both _ (λ n. record { reason = of-derivative z (not-answered-both a _ n) (plain-going nothing); unmarked = refl })
+      (λ v n. keeps-first v _ (answered-both a _ z v n .is-true) (both-computed a _ v n) (plain-on nothing refl (rw z refl) refl))
+    where
+      all : (b : Bool) → 0 + suc (left b) ≡ cond b (max 2 (stop .limit)) (max 1 (stop .limit))
       all true = omega arith
       all false = omega arith
 
-  -- every Newton search ends with its reason, and unmarked
-  pub newton-raphson-ends : Ends (oracle a) Post (newtonProgram stop start) []
-  unfolding newtonProgram searches
-  newton-raphson-ends = ends-bind keeps-opening keeps-passes
+      nothing : Opens []
+      nothing = record { standing = record { steps = all flatStart; undecided = refl }; unmarked = refl }
+
+  -- every Newton search from a finite point ends with its reason, and unmarked
+  pub newton-raphson-ends : finite start ≡ true → Ends (oracle a) Post (newtonProgram stop start) []
+  unfolding newtonProgram
+  newton-raphson-ends z = ends-searches (turnsLeft stop) (turnFrom stop) Inv Post (keeps-opening z) keeps-turn (λ s h i. plain-limit (i .0))

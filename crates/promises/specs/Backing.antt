@@ -49,7 +49,7 @@ use Rattle.polynom_search.specs.PolynomSearchLaws.{polynom-search-values, polyn
 use Rattle.roots.specs.Calls.{badCount, allFinite, startsOf, foundBy, foundUnder, answer}
 use Rattle.roots.specs.declared.Method.{Method}
 use Rattle.roots.specs.declared.Method.the-variants.{Brent, RegulaFalsi, Secant, NewtonRaphson, Polynom}
-use Rattle.promises.specs.Searches.{ruleOf, programOf, historyOf, atOnce, Held, mostValues, mostDerivatives, Reached, Bracketed, Truthful, PairBetween, NestedByOrder}
+use Rattle.promises.specs.Searches.{ruleOf, programOf, historyOf, atOnce, Held, mostValues, mostDerivatives, mostSteps, Bracketed, Truthful, PairBetween, NestedByOrder}
 
 -- each method's definition is its program's answer
 found-by-program : (a : List Float) (stop : StopRule) (m : Method) → foundBy a stop m ≡ answerOf a (programOf stop m)
@@ -123,11 +123,11 @@ one-finite x rest e = go (finite x) refl e
     go true f e = (f, e)
     go false f e = absurd (true≢false (sym e))
 
+two-finite : (x y : Float) → allFinite (x ∷ y ∷ []) ≡ true → (finite x ≡ true) × (finite y ≡ true)
+two-finite x y e = let f = one-finite x (y ∷ []) e in (f .0, one-finite y [] (f .1) .0)
+
 two-doubles : (x y : Float) → Held (x ∷ y ∷ []) → allFinite (x ∷ y ∷ []) ≡ true → Double x × Double y
-two-doubles x y d e =
-    let f = one-finite x (y ∷ []) e in
-    let g = one-finite y [] (f .1) in
-    (start-double x (d .0) (f .0), start-double y (d .1 .0) (g .0))
+two-doubles x y d e = let f = two-finite x y e in (start-double x (d .0) (f .0), start-double y (d .1 .0) (f .1))
 
 module _ (a : List Float) (m : Method) (eps : Float) (limit : ℕ) (z : atOnce a m eps limit ≡ 0) where
   told-answer : answer a m eps limit ≡ answerOf a (programOf (ruleOf eps limit) m)
@@ -170,30 +170,30 @@ module _ (a : List Float) (stop : StopRule) (good : above (stop .eps) ≡ true) 
   bracket-at (NewtonRaphson start) u v s d e = absurd s
   bracket-at (Polynom from to) u v s d e = let w = two-doubles from to d e in rw (← s .0, ← s .1) (polynom-search-ends a stop from to (w .0) (w .1))
 
-  reason-at : (m : Method) → Held (startsOf m) → allFinite (startsOf m) ≡ true → Reason a stop (Reached a stop m) (answerOf a (programOf stop m) .answer) (history (oracle a) (programOf stop m))
+  reason-at : (m : Method) → Held (startsOf m) → allFinite (startsOf m) ≡ true → Reason a stop (mostSteps a stop m) (answerOf a (programOf stop m) .answer) (history (oracle a) (programOf stop m))
   reason-at (Brent from to) d e = at-answer a _ (bracket-at (Brent from to) from to (refl, refl) d e) .reason
   reason-at (RegulaFalsi from to) d e = at-answer a _ (bracket-at (RegulaFalsi from to) from to (refl, refl) d e) .reason
-  reason-at (Secant first second) d e = at-answer a _ (secant-ends a stop first second) .reason
-  reason-at (NewtonRaphson start) d e = at-answer a _ (newton-raphson-ends a stop start) .reason
+  reason-at (Secant first second) d e = let w = two-finite first second e in at-answer a _ (secant-ends a stop first second (w .0) (w .1)) .reason
+  reason-at (NewtonRaphson start) d e = at-answer a _ (newton-raphson-ends a stop start (one-finite start [] e .0)) .reason
   reason-at (Polynom from to) d e = at-answer a _ (bracket-at (Polynom from to) from to (refl, refl) d e) .reason
 
 -- ---- what a reason says
 
-reason-number : {a : List Float} {stop : StopRule} {R : List Event → Type 0} {n : ℕ} {h : List Event} → Reason a stop R (Refused n) h → (6 ≤ n) × (n ≤ 9)
+reason-number : {a : List Float} {stop : StopRule} {most : ℕ} {n : ℕ} {h : List Event} → Reason a stop most (Refused n) h → (6 ≤ n) × (n ≤ 9)
 reason-number (of-signs t u e q) = (omega arith, omega arith)
-reason-number (of-flatness e q) = (omega arith, omega arith)
+reason-number (of-flatness t e q) = (omega arith, omega arith)
 reason-number (of-limit e q) = (omega arith, omega arith)
-reason-number (of-value e q) = (omega arith, omega arith)
-reason-number (of-derivative e q) = (omega arith, omega arith)
+reason-number (of-value z e q) = (omega arith, omega arith)
+reason-number (of-derivative z e q) = (omega arith, omega arith)
 reason-number (of-candidate e q) = (omega arith, omega arith)
 reason-number (of-middle e f q) = (omega arith, omega arith)
 
-reason-value : {a : List Float} {stop : StopRule} {R : List Event → Type 0} {root y : Float} {h : List Event} → Reason a stop R (ByValue root y) h → (y ≡ value a root) × (foundAt stop y ≡ true)
-reason-value (by-value t e q) = (t .computed, e)
+reason-value : {a : List Float} {stop : StopRule} {most : ℕ} {root y : Float} {h : List Event} → Reason a stop most (ByValue root y) h → (y ≡ value a root) × (foundAt stop y ≡ true) × (finite root ≡ true)
+reason-value (by-value t e q) = (t .computed, e, t .point-finite)
 
-reason-width : {a : List Float} {stop : StopRule} {R : List Event → Type 0} {root p q : Float} {h : List Event} → Reason a stop R (ByWidth root p q) h → convergedAt stop p q ≡ true
-reason-width (by-width e q) = e
-reason-width (by-middle e q) = e
+reason-width : {a : List Float} {stop : StopRule} {most : ℕ} {root p q : Float} {h : List Event} → Reason a stop most (ByWidth root p q) h → (convergedAt stop p q ≡ true) × (finite root ≡ true)
+reason-width (by-width z e q) = (e, z)
+reason-width (by-middle z e f q) = (e, z)
 
 -- pairs that narrow are nested by the order number, and lie between the starts
 module _ {a : List Float} {u v : Float} (du : Double u) (dv : Double v) where
@@ -217,14 +217,14 @@ module _ {a : List Float} {u v : Float} (du : Double u) (dv : Double v) where
   )
 
 module _ (a : List Float) (m : Method) (eps : Float) (limit : ℕ) (z : atOnce a m eps limit ≡ 0) (d : Held (startsOf m)) where
-  pub reason-of : Reason a (ruleOf eps limit) (Reached a (ruleOf eps limit) m) (answer a m eps limit .answer) (historyOf a m eps limit)
+  pub reason-of : Reason a (ruleOf eps limit) (mostSteps a (ruleOf eps limit) m) (answer a m eps limit .answer) (historyOf a m eps limit)
   reason-of = let p = passed a m eps limit z in rw (p .is-answer) (reason-at a (ruleOf eps limit) (p .eps-above) m d (p .starts-finite))
 
-  pub value-true : (root y : Float) → answer a m eps limit .answer ≡ ByValue root y → (y ≡ value a root) × (lt (absolute y) eps ≡ true)
+  pub value-true : (root y : Float) → answer a m eps limit .answer ≡ ByValue root y → (y ≡ value a root) × (lt (absolute y) eps ≡ true) × (finite root ≡ true)
   unfolding foundAt
   value-true root y e = reason-value (rw e at reason-of)
 
-  pub width-true : (root p q : Float) → answer a m eps limit .answer ≡ ByWidth root p q → lt (absolute (sub binary64 p q)) eps ≡ true
+  pub width-true : (root p q : Float) → answer a m eps limit .answer ≡ ByWidth root p q → (lt (absolute (sub binary64 p q)) eps ≡ true) × (finite root ≡ true)
   unfolding convergedAt
   width-true root p q e = reason-width (rw e at reason-of)
 
@@ -258,7 +258,10 @@ module _ (a : List Float) (m : Method) (eps : Float) (limit : ℕ) (z : atOnce a
     root-by-width root p q e = between root (subst (λ (x : Answer). Told a u v x) e (bracket-of .told))
 
     pub six-told : answer a m eps limit .answer ≡ Refused 6 → sameSign (value a u) (value a v) ≡ true
-    six-told e = subst (λ (x : Answer). Told a u v x) e (bracket-of .told) refl
+    six-told e = subst (λ (x : Answer). Told a u v x) e (bracket-of .told) .0 refl
+
+    pub never-seven : ¬ (answer a m eps limit .answer ≡ Refused 7)
+    never-seven e = subst (λ (x : Answer). Told a u v x) e (bracket-of .told) .1 refl
 
     pub pairs-nested : NestedByOrder u v (pairsIn (historyOf a m eps limit))
     pairs-nested = by-order (start-doubles .0) (start-doubles .1) pairs-of
@@ -325,16 +328,18 @@ mark-at : (a : List Float) (g : Prog Answer) → answerOf a g .progress .mark �
 unfolding counted
 mark-at a g = ap (λ (p : Progress). p .mark) (tallies-are-counts a g)
 
+-- a call that 1 to 5 refuse has mark 0 too
 module _ (a : List Float) (m : Method) (eps : Float) (limit : ℕ) where
-  unmarked-at : answerOf a (programOf (ruleOf eps limit) m) .progress .mark ≡ 0 → answer a m eps limit .progress .mark ≡ 0
-  unmarked-at e = ap (λ (o : Outcome). o .progress .mark) (answer-is a m eps limit) ∙ go (atOnce a m eps limit)
+  unmarked-at : (allFinite (startsOf m) ≡ true → answerOf a (programOf (ruleOf eps limit) m) .progress .mark ≡ 0) → answer a m eps limit .progress .mark ≡ 0
+  unmarked-at f = ap (λ (o : Outcome). o .progress .mark) (answer-is a m eps limit) ∙ go (atOnce a m eps limit) refl
     where
-      go : (k : ℕ) → byNumber a m eps limit k .progress .mark ≡ 0
-      go zero = e
-      go (suc k) = refl
+      go : (k : ℕ) → atOnce a m eps limit ≡ k → byNumber a m eps limit k .progress .mark ≡ 0
+      go zero z = f (passed a m eps limit z .starts-finite)
+      go (suc k) z = refl
 
 pub unmarked-secant : (a : List Float) (first second eps : Float) (limit : ℕ) → answer a (Secant first second) eps limit .progress .mark ≡ 0
-unmarked-secant a first second eps limit = unmarked-at a (Secant first second) eps limit (mark-at a _ ∙ at-answer a _ (secant-ends a (ruleOf eps limit) first second) .unmarked)
+unmarked-secant a first second eps limit =
+    unmarked-at a (Secant first second) eps limit (λ e. let w = two-finite first second e in mark-at a _ ∙ at-answer a _ (secant-ends a (ruleOf eps limit) first second (w .0) (w .1)) .unmarked)
 
 pub unmarked-newton : (a : List Float) (start eps : Float) (limit : ℕ) → answer a (NewtonRaphson start) eps limit .progress .mark ≡ 0
-unmarked-newton a start eps limit = unmarked-at a (NewtonRaphson start) eps limit (mark-at a _ ∙ at-answer a _ (newton-raphson-ends a (ruleOf eps limit) start) .unmarked)
+unmarked-newton a start eps limit = unmarked-at a (NewtonRaphson start) eps limit (λ e. mark-at a _ ∙ at-answer a _ (newton-raphson-ends a (ruleOf eps limit) start (one-finite start [] e .0)) .unmarked)

@@ -2,20 +2,26 @@
 use Prim.Native.Nat.{ℕ, _≤_}
 use mathlib.Core.Bool.{Bool, true, false}
 use mathlib.Core.List.{List}
+use mathlib.Core.Logic.{_↔_}
 use mathlib.Core.Path.{_≡_}
 use lib.Ieee.{Float, binary64, lt, sub}
+use lib.Ieee.Scale.{finite}
 use Rattle.doubles.specs.Doubles.{absolute, sameSign, orderOf}
 use Rattle.doubles.specs.Pairs.{BetweenZ}
 use Rattle.numerical.specs.declared.Answer.the-variants.{ByValue, ByWidth, Refused}
+use Rattle.numerical.specs.declared.Sample.{Sample}
 use Rattle.polynom.specs.Polynom.{value}
 use Rattle.searching.specs.Brackets.{pairsIn, Narrows}
+use Rattle.searching.specs.Histories.{stepsIn}
 use Rattle.searching.specs.ProgramLaws.{counted}
-use Rattle.searching.specs.Reasons.{Reason}
+use Rattle.searching.specs.Programs.{Test, found, converged, holds, tested, Event, noted}
+use Rattle.searching.specs.Reasons.{Occurs, endsRun, Calls, SignsHeld, FlatHeld, NoneHeld, NotFiniteIn, EvaluatedAt, Reason}
+use Rattle.searching.specs.ExactLaws.{decided, tests-honest, points-finite, exactly-by-value, exactly-by-width, exactly-six, exactly-seven, exactly-eight, exactly-nine}
 use Rattle.roots.specs.Calls.{startsOf, answer}
 use Rattle.roots.specs.declared.Method.{Method}
 use Rattle.roots.specs.declared.Method.the-variants.{Secant, NewtonRaphson}
-use Rattle.promises.specs.Searches.{ruleOf, historyOf, atOnce, Held, mostValues, mostDerivatives, Reached, Bracketed, Truthful, NestedByOrder}
-use Rattle.promises.specs.Backing.{counts-of, values-within, derivatives-within, reason-of, value-true, width-true, pairs-of, pairs-nested, root-by-value, root-by-width, six-told, history-truthful, unmarked-secant, unmarked-newton}
+use Rattle.promises.specs.Searches.{ruleOf, historyOf, atOnce, Held, mostValues, mostDerivatives, mostSteps, Bracketed, Truthful, NestedByOrder}
+use Rattle.promises.specs.Backing.{counts-of, values-within, derivatives-within, reason-of, value-true, width-true, pairs-of, pairs-nested, root-by-value, root-by-width, six-told, never-seven, history-truthful, unmarked-secant, unmarked-newton}
 
 module _ (a : List Float) (m : Method) (eps : Float) (limit : ℕ) (passes : atOnce a m eps limit ≡ 0) where
   -- the steps, values and derivatives reported, and the mark, are those of the definition's history
@@ -31,16 +37,55 @@ module _ (a : List Float) (m : Method) (eps : Float) (limit : ℕ) (passes : atO
   derivatives-bound = derivatives-within a m eps limit passes
 
   module _ (doubles : Held (startsOf m)) where
-    -- the stated reason of any answer, refusals too, is true: it is the test that ended the run, and no stop test before it held
-    pub reasons : Reason a (ruleOf eps limit) (Reached a (ruleOf eps limit) m) (answer a m eps limit .answer) (historyOf a m eps limit)
+    -- the stated reason of any answer, refusals too, is true: it is what the newest events say, so nothing is evaluated after them,
+    -- and before them the steps were below the limit, no stop test held and everything was finite
+    pub reasons : Reason a (ruleOf eps limit) (mostSteps a (ruleOf eps limit) m) (answer a m eps limit .answer) (historyOf a m eps limit)
     reasons = reason-of a m eps limit passes doubles
 
-    -- by value: the root's computed value is the value given, and its size is below eps
-    pub by-value : (root y : Float) → answer a m eps limit .answer ≡ ByValue root y → (y ≡ value a root) × (lt (absolute y) eps ≡ true)
+    -- every stop test of the history is noted as the numbers compared say
+    pub tests : (t : Test) (held : Bool) → Occurs (noted (tested t held)) (historyOf a m eps limit) → held ≡ holds (ruleOf eps limit) t
+    tests = tests-honest reasons
+
+    -- every point that is evaluated is finite
+    pub points : (x : Float) → EvaluatedAt x (historyOf a m eps limit) → finite x ≡ true
+    points = points-finite reasons
+
+    -- any event that ends a run, wherever it stands in the history, fixes the answer
+    pub decides : (e : Event) → Occurs e (historyOf a m eps limit) → endsRun (ruleOf eps limit) e ≡ true → Calls e (answer a m eps limit .answer)
+    decides = decided reasons
+
+    -- by value exactly when found was tested of that sample and held
+    pub by-value-exactly : (p : Sample) → (answer a m eps limit .answer ≡ ByValue (p .x) (p .y)) ↔ Occurs (noted (tested (found p) true)) (historyOf a m eps limit)
+    by-value-exactly = exactly-by-value reasons
+
+    -- by width exactly when converged was tested of those points and held, and everything is finite
+    pub by-width-exactly :
+        (p q : Float) →
+        ((root : Float) × (answer a m eps limit .answer ≡ ByWidth root p q)) ↔ (Occurs (noted (tested (converged p q) true)) (historyOf a m eps limit) × ¬ NotFiniteIn (historyOf a m eps limit))
+    by-width-exactly = exactly-by-width reasons
+
+    -- 6 exactly when the opening sign test was made and held
+    pub six-exactly : (answer a m eps limit .answer ≡ Refused 6) ↔ SignsHeld (historyOf a m eps limit)
+    six-exactly = exactly-six reasons
+
+    -- 7 exactly when a flatness test was made and held; Newton's nudge makes none
+    pub seven-exactly : (answer a m eps limit .answer ≡ Refused 7) ↔ FlatHeld (historyOf a m eps limit)
+    seven-exactly = exactly-seven reasons
+
+    -- 8 exactly when the steps reached the limit and no stop test that was made held
+    pub eight-exactly : (answer a m eps limit .answer ≡ Refused 8) ↔ ((stepsIn (historyOf a m eps limit) ≡ mostSteps a (ruleOf eps limit) m) × NoneHeld (ruleOf eps limit) (historyOf a m eps limit))
+    eight-exactly = exactly-eight reasons
+
+    -- 9 exactly when a value, a derivative or a candidate isn't finite
+    pub nine-exactly : (answer a m eps limit .answer ≡ Refused 9) ↔ NotFiniteIn (historyOf a m eps limit)
+    nine-exactly = exactly-nine reasons
+
+    -- by value: the root's computed value is the value given, its size is below eps, and the root is finite
+    pub by-value : (root y : Float) → answer a m eps limit .answer ≡ ByValue root y → (y ≡ value a root) × (lt (absolute y) eps ≡ true) × (finite root ≡ true)
     by-value root y e = value-true a m eps limit passes doubles root y e
 
-    -- by width: the computed difference of the two points given is below eps in size
-    pub by-width : (root p q : Float) → answer a m eps limit .answer ≡ ByWidth root p q → lt (absolute (sub binary64 p q)) eps ≡ true
+    -- by width: the computed difference of the two points given is below eps in size, and the root is finite
+    pub by-width : (root p q : Float) → answer a m eps limit .answer ≡ ByWidth root p q → (lt (absolute (sub binary64 p q)) eps ≡ true) × (finite root ≡ true)
     by-width root p q e = width-true a m eps limit passes doubles root p q e
 
     module _ (u v : Float) (starts : Bracketed m u v) where
@@ -63,6 +108,10 @@ module _ (a : List Float) (m : Method) (eps : Float) (limit : ℕ) (passes : atO
       -- 6: both values at the starts are above zero, or both below
       pub no-bracketing : answer a m eps limit .answer ≡ Refused 6 → sameSign (value a u) (value a v) ≡ true
       no-bracketing e = six-told a m eps limit passes doubles u v starts e
+
+      -- 7 is never theirs
+      pub no-seven : ¬ (answer a m eps limit .answer ≡ Refused 7)
+      no-seven e = never-seven a m eps limit passes doubles u v starts e
 
 -- the history's evaluations are those that the definition makes: each answer is the evaluator's at its point
 pub evaluations : (a : List Float) (m : Method) (eps : Float) (limit : ℕ) → Truthful a (historyOf a m eps limit)

@@ -14,7 +14,7 @@ use Rattle.simple_convergency.specs.Stop.{greatestLimit, badEps, foundAt, turns
 use Rattle.simple_convergency.specs.declared.StopRule.{StopRule}
 use Rattle.polynom.specs.Polynom.{valueAndDerivative, evaluated, evaluatedBoth}
 use Rattle.searching.specs.Programs.{Prog, Event, asked, askedBoth, noted, oracle}
-use Rattle.searching.specs.Histories.{history, stepsIn}
+use Rattle.searching.specs.Histories.{history}
 use Rattle.brent.specs.Brent.{brentProgram}
 use Rattle.regula_falsi.specs.RegulaFalsi.{illinoisProgram}
 use Rattle.secant.specs.Secant.{secantProgram}
@@ -69,13 +69,13 @@ mostDerivatives (Secant first second) stop = 0
 mostDerivatives (NewtonRaphson start) stop = max 2 (stop .limit)
 mostDerivatives (Polynom from to) stop = turnsOf stop
 
--- the steps at which refusal 8 comes: the larger of 1 and limit, and for Newton from a flat start the larger of 2 and limit
-abbrev pub Reached : List Float → StopRule → Method → List Event → Type 0
-Reached a stop (Brent from to) h = stepsIn h ≡ turnsOf stop
-Reached a stop (RegulaFalsi from to) h = stepsIn h ≡ turnsOf stop
-Reached a stop (Secant first second) h = stepsIn h ≡ turnsOf stop
-Reached a stop (NewtonRaphson start) h = stepsIn h ≡ cond (foundAt stop (valueAndDerivative a start .derivative)) (max 2 (stop .limit)) (max 1 (stop .limit))
-Reached a stop (Polynom from to) h = stepsIn h ≡ turnsOf stop
+-- the steps at which the limit is reached: the larger of 1 and limit, and for Newton from a flat start the larger of 2 and limit
+abbrev pub mostSteps : List Float → StopRule → Method → ℕ
+mostSteps a stop (Brent from to) = turnsOf stop
+mostSteps a stop (RegulaFalsi from to) = turnsOf stop
+mostSteps a stop (Secant first second) = turnsOf stop
+mostSteps a stop (NewtonRaphson start) = cond (foundAt stop (valueAndDerivative a start .derivative)) (max 2 (stop .limit)) (max 1 (stop .limit))
+mostSteps a stop (Polynom from to) = turnsOf stop
 
 -- a bracketing method and its starts
 abbrev pub Bracketed : Method → Float → Float → Type 0

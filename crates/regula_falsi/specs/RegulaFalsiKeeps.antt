@@ -1,5 +1,5 @@
 -- Each answer of the Illinois search has its reason in the history, its pairs narrow, and its root lies between the starts.
-use Prim.Native.Nat.{ℕ, _+_}
+use Prim.Native.Nat.{ℕ, suc}
 use mathlib.Core.Bool.{Bool, true, false}
 use mathlib.Core.List.{List, []}
 use mathlib.Core.Logic.{_⊎_, inl, inr}
@@ -10,7 +10,7 @@ use lib.Ieee.Fits.{div-fits}
 use Rattle.doubles.specs.Compare.{of-true}
 use Rattle.doubles.specs.Doubles.{sameSign}
 use Rattle.doubles.specs.Number.{Double}
-use Rattle.doubles.specs.Pairs.{In, Inside, Nested, end-in}
+use Rattle.doubles.specs.Pairs.{In, Inside}
 use Rattle.doubles.specs.Signs.{same-symmetric, shared-replaced}
 use Rattle.numerical.specs.declared.Answer.{Answer}
 use Rattle.numerical.specs.declared.Sample.{Sample}
@@ -18,11 +18,11 @@ use Rattle.simple_convergency.specs.Stop.{turnsOf}
 use Rattle.simple_convergency.specs.declared.StopRule.{StopRule}
 use Rattle.searching.specs.Programs.{oracle, Event, Prog, Turned}
 use Rattle.searching.specs.Histories.{stepsIn}
-use Rattle.searching.specs.Reasons.{True, noneHeld, by-value, by-width, of-signs, of-value, of-candidate}
-use Rattle.searching.specs.ReasonLaws.{Answered, answered, not-answered}
-use Rattle.searching.specs.Brackets.{pairsIn, pointsOf, Backed, AtStarts, no-pair, Bracket, Bracketing}
-use Rattle.searching.specs.BracketLaws.{double-num, bracket-backed, bracket-in, bracket-quiet, bracket-narrows, bracket-on, bracket-next, bracket-pulled, bracket-first, bracket-limit, told-nine, told-six}
-use Rattle.searching.specs.Keeps.{Ends, After, ends-done, ends-log, ends-test, ends-stops, ends-value, ends-offered, ends-pulled, ends-bracketed, ends-narrows, ends-searches}
+use Rattle.searching.specs.Reasons.{someEnds, True, by-value, by-width}
+use Rattle.searching.specs.ReasonLaws.{Answered}
+use Rattle.searching.specs.Brackets.{pairsIn, pointsOf, Backed, Fit, AtStarts, Bracket, Unpaired, Bracketing}
+use Rattle.searching.specs.BracketLaws.{double-finite, between, answered-fit, ends-fit, unpaired-none, unpaired-going, unpaired-on, unpaired-narrows, unpaired-value, bracketed-ends, bracket-backed, bracket-in, bracket-narrows, bracket-on, bracket-pulled, bracket-going, bracket-next, bracket-found, bracket-value, bracket-no-candidate, bracket-limit}
+use Rattle.searching.specs.Keeps.{Ends, After, ends-done, ends-log, ends-test, ends-stops, ends-offered, ends-pulled, ends-narrows, ends-searches}
 use Rattle.regula_falsi.specs.RegulaFalsi.{pairOf, secondAt, firstAt, ordered, opening, candidateOf, rightAfter, leftAfter, replacedOf, arrived, landed, pulledIn, turnFrom, illinoisProgram}
 use Rattle.regula_falsi.specs.declared.End.{End}
 use Rattle.regula_falsi.specs.declared.Edge.{Edge}
@@ -63,19 +63,12 @@ candidate-held : (s : Illinois) → T (fits binary64 (candidateOf s))
 unfolding candidateOf
 candidate-held s = div-fits binary64 _ _
 
--- each of two points lies between them
-between : (u v : Float) → Double u → Double v → Inside u v u × Inside u v v
-between u v d e = (end-in u v (double-num d) (double-num e), elim (end-in v u (double-num e) (double-num d)) [ inl t ↦ inr t | inr t ↦ inl t ])
-
 module _ (a : List Float) (stop : StopRule) (from to : Float) (from-double : Double from) (to-double : Double to) where
-  abbrev Post : Answer → List Event → Type 0
-  Post = Bracket a stop from to
-
   abbrev Inv : ℕ → Illinois → List Event → Type 0
-  Inv k s h = Bracketing a from to k (pairOf s) h
+  Inv n s h = Bracketing a stop from to n (pairOf s) h
 
   abbrev Reaches : ℕ → Prog (Turned Illinois) → List Event → Type 0
-  Reaches k g h = Ends (oracle a) (After (Inv k) Post) g h
+  Reaches n g h = Ends (oracle a) (After (Inv n) (Bracket a stop from to)) g h
 
   -- ---- the opening
 
@@ -83,19 +76,15 @@ module _ (a : List Float) (stop : StopRule) (from to : Float) (from-double : Dou
   abbrev Starts : Float → Float → Type 0
   Starts x1 x2 = ((x1 ≡ from) × (x2 ≡ to)) ⊎ ((x1 ≡ to) × (x2 ≡ from))
 
-  -- before the first pair nothing was stepped, and no stop test held
-  abbrev Unpaired : List Event → Type 0
-  Unpaired h = (stepsIn h ≡ 0) × (noneHeld h ≡ true) × (pairsIn h ≡ [])
-
   -- a double that lies between the starts
   abbrev Start : Float → Type 0
-  Start x = Double x × Inside from to x
+  Start x = Inside from to x × Double x
 
   from-start : Start from
-  from-start = (from-double, between from to from-double to-double .0)
+  from-start = (between from to from-double to-double .0, from-double)
 
   to-start : Start to
-  to-start = (to-double, between from to from-double to-double .1)
+  to-start = (between from to from-double to-double .1, to-double)
 
   module _ (x1 x2 : Float) (starts : Starts x1 x2) where
     first-start : Start x1
@@ -107,65 +96,54 @@ module _ (a : List Float) (stop : StopRule) (from to : Float) (from-double : Dou
     at-starts : (p q : Sample) → Answered a x1 p → Answered a x2 q → AtStarts from to (record { begin = p; end = q })
     at-starts p q v w = rw (v .at-point, w .at-point) starts
 
-    keeps-second : (p q : Sample) (h : List Event) → Answered a x1 p → Answered a x2 q → Unpaired h → Reaches 0 (secondAt stop p q) h
-    unfolding secondAt stepsIn noneHeld pairsIn
+    keeps-second : (p q : Sample) (h : List Event) → Answered a x1 p → Answered a x2 q → Unpaired stop h → Reaches (turnsOf stop) (secondAt stop p q) h
+    unfolding secondAt stepsIn someEnds pairsIn
     keeps-second p q h v w i =
-        ends-stops stop _ (λ e. ends-done (record { reason = by-value (w .is-true) e (i .1); narrows = rw (i .2) no-pair; told = rw (w .at-point) (second-start .1, second-start .0) }))
-        (λ e. ends-bracketed _ stop p q
-        (λ f. record { reason = of-signs (v .is-true) (w .is-true) f (i .1); narrows = rw (i .2) no-pair; told = told-six _ (v .is-true) (w .is-true) (at-starts p q v w) f })
-        (λ f. bracket-first _ (record { steps = i .0; quiet = i .1 }) (i .2)
-        (record { begin-true = v .is-true; end-true = w .is-true; not-alike = f; begin-double = rw (v .at-point) (first-start .0); end-double = rw (w .at-point) (second-start .0) }) (at-starts p q v w)))
+        ends-stops stop _ (λ e. ends-done (record { reason = by-value (w .is-true) e (unpaired-going i); narrows = unpaired-narrows i; told = rw (w .at-point) second-start }))
+        (λ e. bracketed-ends (unpaired-on i refl refl (rw e refl)) from-double to-double (record { begin = p; end = q }) (at-starts p q v w) (v .is-true) (w .is-true) (Inv (turnsOf stop)) _ (λ h2 b. b))
 
-    keeps-first : (p : Sample) (h : List Event) → Answered a x1 p → Unpaired h → Reaches 0 (firstAt stop x2 p) h
-    unfolding firstAt stepsIn noneHeld pairsIn
+    keeps-first : (p : Sample) (h : List Event) → Answered a x1 p → Unpaired stop h → Reaches (turnsOf stop) (firstAt stop x2 p) h
+    unfolding firstAt stepsIn someEnds pairsIn
     keeps-first p h v i =
-        ends-stops stop _ (λ e. ends-done (record { reason = by-value (v .is-true) e (i .1); narrows = rw (i .2) no-pair; told = rw (v .at-point) (first-start .1, first-start .0) }))
-        (λ e. ends-value x2 (λ n. record { reason = of-value (not-answered a x2 n) (i .1); narrows = rw (i .2) no-pair; told = told-nine a from to }) (λ q n. keeps-second p q _ v (answered a x2 q n) i))
+        ends-stops stop _ (λ e. ends-done (record { reason = by-value (v .is-true) e (unpaired-going i); narrows = unpaired-narrows i; told = rw (v .at-point) first-start }))
+        (λ e. unpaired-value (unpaired-on i refl refl (rw e refl)) x2 (second-start .1) (λ q w j. keeps-second p q _ v w j))
 
-    keeps-ordered : Reaches 0 (ordered stop x1 x2) []
-    unfolding ordered stepsIn noneHeld pairsIn
-    keeps-ordered = ends-value x1 (λ n. record { reason = of-value (not-answered a x1 n) refl; narrows = no-pair; told = told-nine a from to }) (λ p n. keeps-first p _ (answered a x1 p n) (refl, refl, refl))
+    keeps-ordered : Reaches (turnsOf stop) (ordered stop x1 x2) []
+    unfolding ordered
+    keeps-ordered = unpaired-value unpaired-none x1 (first-start .1) (λ p v i. keeps-first p _ v i)
 
-  keeps-opening : Reaches 0 (opening stop from to) []
+  keeps-opening : Reaches (turnsOf stop) (opening stop from to) []
   unfolding opening
   keeps-opening = ends-test (lt to from) (λ e. keeps-ordered to from (inr (refl, refl))) (λ e. keeps-ordered from to (inl (refl, refl)))
 
   -- ---- a step
+  module _ (n : ℕ) (s : Illinois) where
+    keeps-arrived : (p : Sample) (h : List Event) → Fit a (pairOf s) p → Inv (suc n) s h → Reaches n (arrived stop s p) h
+    unfolding arrived stepsIn someEnds pairsIn
+    keeps-arrived p h t b =
+        ends-stops stop _ (λ e. ends-done (bracket-found b p t e))
+        (λ e.
+        let w = ends-fit (bracket-backed b) in
+        let r = replaced-ends (Fit a (pairOf s)) s p (w .0) (w .1) t in
+        ends-log _ (ends-narrows (replacedOf s p) pairOf (bracket-next (bracket-on b refl refl (rw e refl)) _ (r .0) (r .1) (replaced-signs s p (bracket-backed b .not-alike)))))
 
-  -- a sample that may be an end of the next pair
-  abbrev Eligible : Illinois → Sample → Type 0
-  Eligible s p = True a p × Double (p .x) × In (pointsOf (pairOf s)) (p .x)
+    keeps-landed : (x : Float) (h : List Event) → Double x → In (pointsOf (pairOf s)) x → Inv (suc n) s h → Reaches n (landed stop s x) h
+    unfolding landed stepsIn someEnds pairsIn
+    keeps-landed x h d i b =
+        ends-stops stop _ (λ e. ends-done (record { reason = by-width (double-finite d) e (bracket-going b); narrows = bracket-narrows b; told = (bracket-in b x i, d) }))
+        (λ e. bracket-value (bracket-on b refl refl (rw e refl)) x d (λ p t c. keeps-arrived p _ (answered-fit t d i) c))
 
-  keeps-replaced : (s : Illinois) (p : Sample) → Backed a (pairOf s) → Eligible s p → Backed a (pairOf (replacedOf s p)) × Nested (pointsOf (pairOf s)) (pointsOf (pairOf (replacedOf s p)))
-  keeps-replaced s p w t =
-      let i = between _ _ (w .begin-double) (w .end-double) in
-      let e = replaced-ends (Eligible s) s p (w .begin-true, w .begin-double, i .0) (w .end-true, w .end-double, i .1) t in
-      (record { begin-true = e .0 .0; end-true = e .1 .0; not-alike = replaced-signs s p (w .not-alike); begin-double = e .0 .1; end-double = e .1 .1 }, record { one-in = e .0 .2; other-in = e .1 .2 })
+    keeps-pulled : (x : Float) (h : List Event) → Double x → Inv (suc n) s h → Reaches n (pulledIn stop s x) h
+    unfolding pulledIn stepsIn someEnds pairsIn
+    keeps-pulled x h d b = let w = bracket-pulled b x d in ends-pulled (landed stop s) _ _ x (keeps-landed _ _ (w .0) (w .1) (bracket-on b refl refl refl))
 
-  keeps-arrived : (k : ℕ) (s : Illinois) (p : Sample) (h : List Event) → Eligible s p → Inv k s h → Reaches (k + 1) (arrived stop s p) h
-  unfolding arrived stepsIn noneHeld pairsIn
-  keeps-arrived k s p h t b =
-      ends-stops stop _ (λ e. ends-done (record { reason = by-value (t .0) e (bracket-quiet b); narrows = bracket-narrows b; told = (bracket-in b (p .x) (t .2), t .1) }))
-      (λ e. let w = keeps-replaced s p (bracket-backed b) t in ends-log _ (ends-narrows (replacedOf s p) pairOf (bracket-next (bracket-on b refl refl refl) _ (w .0) (w .1))))
-
-  keeps-landed : (k : ℕ) (s : Illinois) (x : Float) (h : List Event) → Double x → In (pointsOf (pairOf s)) x → Inv k s h → Reaches (k + 1) (landed stop s x) h
-  unfolding landed stepsIn noneHeld pairsIn
-  keeps-landed k s x h d i b =
-      ends-stops stop _ (λ e. ends-done (record { reason = by-width e (bracket-quiet b); narrows = bracket-narrows b; told = (bracket-in b x i, d) }))
-      (λ e. ends-value x (λ n. record { reason = of-value (not-answered a x n) (bracket-quiet b); narrows = bracket-narrows b; told = told-nine a from to })
-      (λ p n. let w = answered a x p n in keeps-arrived k s p _ (w .is-true, rw (w .at-point) d, rw (w .at-point) i) (bracket-on b refl refl refl)))
-
-  keeps-pulled : (k : ℕ) (s : Illinois) (x : Float) (h : List Event) → Double x → Inv k s h → Reaches (k + 1) (pulledIn stop s x) h
-  unfolding pulledIn stepsIn noneHeld pairsIn
-  keeps-pulled k s x h d b = let w = bracket-pulled b x d in ends-pulled (landed stop s) _ _ x (keeps-landed k s _ _ (w .0) (w .1) (bracket-on b refl refl refl))
-
-  keeps-turn : (k : ℕ) (s : Illinois) (h : List Event) → Inv k s h → Reaches (k + 1) (turnFrom stop s) h
-  unfolding turnFrom stepsIn noneHeld pairsIn
-  keeps-turn k s h b =
-      ends-offered (pulledIn stop s) (candidateOf s) (λ n. record { reason = of-candidate n (bracket-quiet b); narrows = bracket-narrows b; told = told-nine a from to })
-      (λ n. keeps-pulled k s (candidateOf s) _ (record { is-finite = of-true _ n; is-held = candidate-held s }) (bracket-on b refl refl refl))
+    keeps-turn : (h : List Event) → Inv (suc n) s h → Reaches n (turnFrom stop s) h
+    unfolding turnFrom stepsIn someEnds pairsIn
+    keeps-turn h b =
+        ends-offered (pulledIn stop s) (candidateOf s) (bracket-no-candidate b (candidateOf s))
+        (λ c. keeps-pulled (candidateOf s) _ (record { is-finite = of-true _ c; is-held = candidate-held s }) (bracket-on b refl refl (rw c refl)))
 
   -- every Illinois search ends with its reason, with pairs that narrow, and with a root between the starts
   pub regula-falsi-ends : Ends (oracle a) (Bracket a stop from to) (illinoisProgram stop from to) []
   unfolding illinoisProgram
-  regula-falsi-ends = ends-searches (turnFrom stop) Inv Post (turnsOf stop) keeps-opening keeps-turn (λ s h b. bracket-limit b)
+  regula-falsi-ends = ends-searches (λ r. turnsOf stop) (turnFrom stop) Inv (Bracket a stop from to) keeps-opening keeps-turn (λ s h b. bracket-limit b)

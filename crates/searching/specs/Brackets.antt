@@ -7,15 +7,15 @@ use mathlib.Core.Path.{_≡_}
 use lib.Ieee.{Float}
 use Rattle.doubles.specs.Doubles.{sameSign}
 use Rattle.doubles.specs.Number.{Double}
-use Rattle.doubles.specs.Pairs.{Pair, Nested, Inside}
+use Rattle.doubles.specs.Pairs.{Pair, Nested, Inside, In}
 use Rattle.numerical.specs.declared.Answer.{Answer}
 use Rattle.numerical.specs.declared.Answer.the-variants.{ByValue, ByWidth, Refused}
 use Rattle.numerical.specs.declared.Interval.{Interval}
+use Rattle.numerical.specs.declared.Sample.{Sample}
 use Rattle.simple_convergency.specs.Stop.{turnsOf}
 use Rattle.simple_convergency.specs.declared.StopRule.{StopRule}
 use Rattle.polynom.specs.Polynom.{value}
 use Rattle.searching.specs.Programs.{Note, tested, candidate, ruled, paired, stepped, Event, asked, askedBoth, noted}
-use Rattle.searching.specs.Histories.{stepsIn}
 use Rattle.searching.specs.Reasons.{True, Reason, Standing}
 
 -- the pairs of a history, newest first
@@ -40,6 +40,12 @@ pub record Backed (a : List Float) (i : Interval) : Type 0 where
   pub begin-double : Double (i .begin .x)
   pub end-double : Double (i .end .x)
 
+-- a sample that may be an end of a pair within i: its value is the computed one, and its point a double inside
+pub record Fit (a : List Float) (i : Interval) (p : Sample) : Type 0 where
+  pub is-sample : True a p
+  pub is-double : Double (p .x)
+  pub is-inside : In (pointsOf i) (p .x)
+
 -- the pair's points are u and v
 abbrev pub AtStarts : Float → Float → Interval → Type 0
 AtStarts u v i = ((i .begin .x ≡ u) × (i .end .x ≡ v)) ⊎ ((i .begin .x ≡ v) × (i .end .x ≡ u))
@@ -50,21 +56,26 @@ pub data Narrows (a : List Float) (u v : Float) : List Interval → Type 0 where
   first-pair : {i : Interval} → Backed a i → AtStarts u v i → Narrows a u v (i ∷ [])
   next-pair : {i j : Interval} {older : List Interval} → Backed a j → Nested (pointsOf i) (pointsOf j) → Narrows a u v (i ∷ older) → Narrows a u v (j ∷ i ∷ older)
 
--- an accepted root is a double between the starts, and 6 is told of the values at the starts
+-- an accepted root is a double between the starts, 6 is told of the values at the starts, and 7 is never told
 abbrev pub Told : List Float → Float → Float → Answer → Type 0
 Told a u v (ByValue root y) = Inside u v root × Double root
 Told a u v (ByWidth root p q) = Inside u v root × Double root
-Told a u v (Refused n) = n ≡ 6 → sameSign (value a u) (value a v) ≡ true
+Told a u v (Refused n) = (n ≡ 6 → sameSign (value a u) (value a v) ≡ true) × ¬ (n ≡ 7)
 
 -- the promises of a bracketing search from u and v, at its end
 pub record Bracket (a : List Float) (stop : StopRule) (u v : Float) (answer : Answer) (h : List Event) : Type 0 where
-  pub reason : Reason a stop (λ h. stepsIn h ≡ turnsOf stop) answer h
+  pub reason : Reason a stop (turnsOf stop) answer h
   pub narrows : Narrows a u v (pairsIn h)
   pub told : Told a u v answer
 
--- where such a search stands after k steps, with the pair i
-pub record Bracketing (a : List Float) (u v : Float) (k : ℕ) (i : Interval) (h : List Event) : Type 0 where
-  pub standing : Standing k h
+-- where such a search stands before its first pair
+pub record Unpaired (stop : StopRule) (h : List Event) : Type 0 where
+  pub standing : Standing stop (turnsOf stop) (turnsOf stop) h
+  pub none : pairsIn h ≡ []
+
+-- where it stands with n steps left, and with the pair i
+pub record Bracketing (a : List Float) (stop : StopRule) (u v : Float) (n : ℕ) (i : Interval) (h : List Event) : Type 0 where
+  pub standing : Standing stop (turnsOf stop) n h
   pub older : List Interval
   pub newest : pairsIn h ≡ i ∷ older
   pub narrows : Narrows a u v (i ∷ older)

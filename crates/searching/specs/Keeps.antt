@@ -107,23 +107,23 @@ module _ {S : Type 0} {o : Oracle} {Q : Turned S → List Event → Type 0} {h :
 
 -- ---- whole searches
 
--- after k steps: an end is where Post holds, and a state is where Inv does
+-- an end is where Post holds, and a state is where Inv does
 abbrev pub After : {S : Type 0} → (S → List Event → Type 0) → (Answer → List Event → Type 0) → Turned S → List Event → Type 0
 After Inv Post (ended a) h = Post a h
 After Inv Post (next s) h = Inv s h
 
-module _ {S : Type 0} {o : Oracle} (turn : S → Prog (Turned S)) (Inv : ℕ → S → List Event → Type 0) (Post : Answer → List Event → Type 0) (most : ℕ) where
-  -- n turns are left of `most`, and k were made
+module _ {S : Type 0} {o : Oracle} (turn : S → Prog (Turned S)) (Inv : ℕ → S → List Event → Type 0) (Post : Answer → List Event → Type 0) where
+  -- with n turns left
   pub ends-run :
-      ((k : ℕ) (s : S) (h : List Event) → Inv k s h → Ends o (After (Inv (k + 1)) Post) (turn s) h) →
-      ((s : S) (h : List Event) → Inv most s h → Post (Refused 8) h) →
-      (n k : ℕ) → k + n ≡ most → (r : Turned S) (h : List Event) → After (Inv k) Post r h → Ends o Post (run turn n r) h
+      ((n : ℕ) (s : S) (h : List Event) → Inv (suc n) s h → Ends o (After (Inv n) Post) (turn s) h) →
+      ((s : S) (h : List Event) → Inv zero s h → Post (Refused 8) h) →
+      (n : ℕ) (r : Turned S) (h : List Event) → After (Inv n) Post r h → Ends o Post (run turn n r) h
   unfolding run play
-  ends-run f out zero k e (ended a) h q = record { there = q }
-  ends-run f out zero k e (next s) h q = record { there = out s h (subst (λ (j : ℕ). Inv j s h) (sym (add-zero k) ∙ e) q) }
-  ends-run f out (suc n) k e (ended a) h q = record { there = q }
-  ends-run f out (suc n) k e (next s) h q =
-      record { there = rw play-bind (ends-run f out n (k + 1) (omega arith) (play listed o (turn s) h .0) (play listed o (turn s) h .1) (f k s h q .there) .there) }
+  ends-run f out zero (ended a) h q = record { there = q }
+  ends-run f out zero (next s) h q = record { there = out s h q }
+  ends-run f out (suc n) (ended a) h q = record { there = q }
+  ends-run f out (suc n) (next s) h q =
+      record { there = rw play-bind (ends-run f out n (play listed o (turn s) h .0) (play listed o (turn s) h .1) (f n s h q .there) .there) }
 
 -- one program after another
 pub ends-bind :
@@ -132,12 +132,16 @@ pub ends-bind :
 ends-bind {o = o} {g = g} {k = k} {h = h} e f =
     record { there = rw play-bind (f (play listed o g h .0) (play listed o g h .1) (e .there) .there) }
 
--- an opening, and then the same number of turns whatever it came to
+-- an opening, and then the turns that are left after it
 pub ends-searches :
-    {S : Type 0} {o : Oracle} {opening : Prog (Turned S)} (turn : S → Prog (Turned S)) (Inv : ℕ → S → List Event → Type 0) (Post : Answer → List Event → Type 0) (most : ℕ) →
-    Ends o (After (Inv 0) Post) opening [] →
-    ((k : ℕ) (s : S) (h : List Event) → Inv k s h → Ends o (After (Inv (k + 1)) Post) (turn s) h) →
-    ((s : S) (h : List Event) → Inv most s h → Post (Refused 8) h) →
-    Ends o Post (searches opening (λ r. most) turn) []
+    {S : Type 0} {o : Oracle} {opening : Prog (Turned S)} (turns : Turned S → ℕ) (turn : S → Prog (Turned S)) (Inv : ℕ → S → List Event → Type 0) (Post : Answer → List Event → Type 0) →
+    Ends o (After (λ s h. Inv (turns (next s)) s h) Post) opening [] →
+    ((n : ℕ) (s : S) (h : List Event) → Inv (suc n) s h → Ends o (After (Inv n) Post) (turn s) h) →
+    ((s : S) (h : List Event) → Inv zero s h → Post (Refused 8) h) →
+    Ends o Post (searches opening turns turn) []
 unfolding searches
-ends-searches turn Inv Post most e f out = ends-bind e (λ r h q. ends-run turn Inv Post most f out most 0 (omega arith) r h q)
+ends-searches {S} {o} {opening} turns turn Inv Post e f out = ends-bind e (λ r h q. ends-run turn Inv Post f out (turns r) r h (same r h q))
+  where
+    same : (r : Turned S) (h : List Event) → After (λ s h. Inv (turns (next s)) s h) Post r h → After (Inv (turns r)) Post r h
+    same (ended a) h q = q
+    same (next s) h q = q

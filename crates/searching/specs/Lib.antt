@@ -8,6 +8,7 @@ pub mod LoopLaws
 -- what is promised of every history, and the rules by which a method keeps it
 pub mod Reasons
 pub mod ReasonLaws
+pub mod ExactLaws
 pub mod Brackets
 pub mod BracketLaws
 pub mod Keeps
