@@ -44,7 +44,7 @@ enum roots_kind {
 };
 
 /*
- * Refusals. 1 to 5 are tested in this order, before any evaluation, and leave all tallies zero.
+ * Refusals. 1 to 5 are given in this order, whatever a search would find, and leave all tallies zero.
  * 6 to 9 come in order of the run, with the tallies up to there.
  */
 enum roots_refusal {

@@ -2,6 +2,7 @@
 use mathlib.Core.Bool.{Bool, true, false, cond}
 use lib.Ieee.{Float, binary64, ofBits, add, sub, mul, div, lt, le, ne}
 use mathlib.Core.List.{List}
+use mathlib.Core.Path.{_≡_}
 use Rattle.numerical.specs.declared.Answer.{Answer}
 use Rattle.numerical.specs.declared.Answer.the-variants.{ByWidth}
 use Rattle.numerical.specs.declared.Interval.{Interval}
@@ -12,11 +13,16 @@ use Rattle.simple_convergency.specs.Stop.{convergedAt, turnsOf}
 use Rattle.simple_convergency.specs.declared.StopRule.{StopRule}
 use Rattle.doubles.specs.Doubles.{above, below, absolute, oppositeSign}
 use Rattle.numerical.specs.Middle.{two}
+use Rattle.numerical.specs.Tallies.{ruledOf}
+use Rattle.polynom.specs.Polynom.{evaluated}
+use Rattle.polynom.specs.declared.Evaluated.the-variants.{At}
 use Rattle.searching.specs.Programs.{found, converged, ruled, Prog, log, Turned, ended, next, test, stops, answers, byValue, valueAt, offered, pulledInto, differ, bracketed, narrowsTo, searches, answerOf}
+use Rattle.searching.specs.declared.Decided.{Decided}
 use Rattle.brent.specs.declared.Arranged.{Arranged}
 use Rattle.brent.specs.declared.Brent.{Brent}
+use Rattle.brent.specs.declared.To.{To}
+use Rattle.brent.specs.declared.To.the-variants.{Ended, Next}
 use Rattle.brent.specs.declared.Turn.{Turn}
-use Rattle.brent.specs.declared.Turn.the-variants.{Ended, Next}
 
 -- 3 and 4
 abbrev pub three : Float
@@ -119,6 +125,10 @@ keptB s flag p b = narrowsTo pairOf (nextOf s flag (arrange p b))
 unfoldable pub stepDeparts : Sample → Sample → Bool
 stepDeparts a p = differ (oppositeSign (a .y) (p .y)) (below (mul binary64 (a .y) (p .y)))
 
+-- the test of a step, with what the run has done after it
+abbrev pub oppositeBy : Sample → Sample → Progress → Decided
+oppositeBy a p w = record { holds = oppositeSign (a .y) (p .y); progress = ruledOf 1 (stepDeparts a p) w }
+
 unfoldable pub arrived : Brent → Bool → Sample → Prog (Turned Brent)
 arrived s flag p =
     log (ruled 1 (stepDeparts (s .a) p))
@@ -160,6 +170,14 @@ brent cs stop a b = answerOf cs (brentProgram stop a b)
 
 -- ---- what a turn of the code stands for
 
+abbrev pub seen : To → Turned Brent
+seen (Ended a) = ended a
+seen (Next s) = next s
+
 abbrev pub viewed : Turn → Turned Brent × Progress
-viewed (Ended o) = (ended (o .answer), o .progress)
-viewed (Next s p) = (next s, p)
+viewed t = (seen (t .to), t .progress)
+
+-- the samples of the pair came from evaluations
+pub record Evaluations (cs : List Float) (s : Brent) : Type 0 where
+  pub of-a : evaluated cs (s .a .x) ≡ At (s .a)
+  pub of-b : evaluated cs (s .b .x) ≡ At (s .b)

@@ -11,6 +11,7 @@ use Rattle.doubles.specs.Compare.{of-true, finite-num}
 use Rattle.doubles.specs.Doubles.{absolute, above, below, sameSign}
 use Rattle.doubles.specs.Number.{Double}
 use Rattle.doubles.specs.Pairs.{In, Inside}
+use Rattle.doubles.specs.Products.{product-below}
 use Rattle.doubles.specs.Signs.{same-symmetric, opposite-not-same, other-kept, not-found}
 use Rattle.numerical.specs.declared.Interval.{Interval}
 use Rattle.numerical.specs.declared.Sample.{Sample}
@@ -29,7 +30,7 @@ use Rattle.brent.specs.declared.Arranged.{Arranged}
 use Rattle.brent.specs.declared.Brent.{Brent}
 
 -- what holds of two samples either way round holds of them arranged
-either-way : (P : Arranged → Type 0) (p q : Sample) → P (record { a = p; b = q }) → P (record { a = q; b = p }) → P (arrange p q)
+pub either-way : (P : Arranged → Type 0) (p q : Sample) → P (record { a = p; b = q }) → P (record { a = q; b = p }) → P (arrange p q)
 unfolding arrange
 either-way P p q f g = go (lt (absolute (q .y)) (absolute (p .y)))
   where
@@ -52,6 +53,9 @@ answered-again {a} p q t u = λ i. record { x = u .at-point i; y = same i }
   where
     same : q .y ≡ p .y
     same = u .is-true .computed ∙ ap (value a) (u .at-point) ∙ sym (t .computed)
+
+-- values of opposite signs, told by the signs or by the product, are not alike: for `search`
+ruleset apart = (opposite-not-same, product-below)
 
 -- ---- the method
 module _ (a : List Float) (stop : StopRule) (good : above (stop .eps) ≡ true) (from to : Float) (from-double : Double from) (to-double : Double to) where
@@ -119,8 +123,8 @@ module _ (a : List Float) (stop : StopRule) (good : above (stop .eps) ≡ true) 
       keeps-arrived flag p h b t =
           ends-log _
           (ends-test _
-          (λ e. bracket-value (bracket-on b refl refl refl) (s .a .x) (bracket-backed b .begin-double) (λ q u c. keeps-a flag p q _ c t u (opposite-not-same _ _ e)))
-          (λ e. bracket-value (bracket-on b refl refl refl) (s .b .x) (bracket-backed b .end-double) (λ q u c. keeps-b flag p q _ c t u (other-kept _ _ _ away (bracket-backed b .not-alike) e))))
+          (λ e. bracket-value (bracket-on b refl refl refl) (s .a .x) (bracket-backed b .begin-double) (λ q u c. keeps-a flag p q _ c t u (search apart)))
+          (λ e. bracket-value (bracket-on b refl refl refl) (s .b .x) (bracket-backed b .end-double) (λ q u c. keeps-b flag p q _ c t u (search (other-kept, bracket-backed b .not-alike)))))
 
       keeps-landed : (flag : Bool) (x : Float) (h : List Event) → Stands (suc n) s h → Double x → In (pointsOf (pairOf s)) x → Reaches n (landed s flag x) h
       unfolding landed

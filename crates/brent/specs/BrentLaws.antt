@@ -1,22 +1,47 @@
 -- What the loop and the bounds of Brent's method rest on, and that a turn is what its view says.
-use Prim.Native.Nat.{_+_, _*_, _≤_}
+use Prim.Native.Nat.{ℕ, _+_, _*_, _≤_}
 use native.Mathlib.Omega.{arith}
 use native.Mathlib.Nat.{le-refl}
+use mathlib.Core.Bool.{Bool, true, false}
 use mathlib.Core.List.{List}
-use mathlib.Core.Path.{_≡_, refl}
-use lib.Ieee.{Float}
+use mathlib.Core.Path.{_≡_, refl, ap, _∙_}
+use lib.Ieee.{Float, lt}
+use Rattle.doubles.specs.Doubles.{absolute}
+use Rattle.numerical.specs.Answers.{outcome}
 use Rattle.numerical.specs.Tallies.{fresh}
+use Rattle.numerical.specs.declared.Answer.{Answer}
+use Rattle.numerical.specs.declared.Outcome.{Outcome}
+use Rattle.numerical.specs.declared.Progress.{Progress}
+use Rattle.numerical.specs.declared.Sample.{Sample}
 use Rattle.simple_convergency.specs.Stop.{turnsOf}
 use Rattle.simple_convergency.specs.declared.StopRule.{StopRule}
-use Rattle.searching.specs.Programs.{oracle}
+use Rattle.searching.specs.Programs.{oracle, play, tallied}
 use Rattle.searching.specs.Histories.{history}
 use Rattle.searching.specs.ProgramLaws.{tallies-are-counts, counted}
 use Rattle.searching.specs.Bounds.{More, Within, within-done, within-test, within-stops, within-ruled, within-pulled, within-value, within-offered, within-bracketed, within-narrows, within-less, within-searches, answer-within}
-use Rattle.searching.specs.LoopLaws.{Method, Shown, shown-end, shown-go, viewed-once}
-use Rattle.brent.specs.Brent.{opened, secondAt, firstAt, opening, keptA, keptB, arrived, landed, pulledIn, stepWith, stepFrom, turnFrom, brentProgram, brent, viewed}
+use Rattle.searching.specs.LoopLaws.{Turns, runOf, opened-ended, opened-next, Shown, shown-end, shown-go, seen-once}
+use Rattle.brent.specs.Brent.{arrange, opened, secondAt, firstAt, opening, nextOf, keptA, keptB, arrived, landed, pulledIn, stepWith, stepFrom, turnFrom, brentProgram, brent, seen}
+use Rattle.brent.specs.declared.Arranged.{Arranged}
 use Rattle.brent.specs.declared.Brent.{Brent}
-use Rattle.brent.specs.declared.Turn.{Turn}
-use Rattle.brent.specs.declared.Turn.the-variants.{Ended, Next}
+use Rattle.brent.specs.declared.To.{To}
+use Rattle.brent.specs.declared.To.the-variants.{Ended, Next}
+
+-- two samples are arranged by the sizes u and v of their values
+module _ {u v : Float} (p q : Sample) (e : u ≡ absolute (p .y)) (f : v ≡ absolute (q .y)) where
+  pub first-larger : lt v u ≡ true → _≡_ {A = Arranged} (record { a = p; b = q }) (arrange p q)
+  unfolding arrange
+  first-larger h = rw (← e, ← f, h) refl
+
+  pub first-not-larger : lt v u ≡ false → _≡_ {A = Arranged} (record { a = q; b = p }) (arrange p q)
+  unfolding arrange
+  first-not-larger h = rw (← e, ← f, h) refl
+
+  -- and the state that goes on has them so
+  pub moved-larger : {i : Brent} (s : Brent) (flag : Bool) → i ≡ nextOf s flag (record { a = p; b = q }) → lt v u ≡ true → i ≡ nextOf s flag (arrange p q)
+  moved-larger s flag m h = m ∙ ap (nextOf s flag) (first-larger h)
+
+  pub moved-not-larger : {i : Brent} (s : Brent) (flag : Bool) → i ≡ nextOf s flag (record { a = q; b = p }) → lt v u ≡ false → i ≡ nextOf s flag (arrange p q)
+  moved-not-larger s flag m h = m ∙ ap (nextOf s flag) (first-not-larger h)
 
 -- the two ends
 pub within-opening : (stop : StopRule) (from to : Float) → Within 2 0 0 (opening stop from to)
@@ -35,21 +60,31 @@ within-turn stop s =
     (within-value _ (λ a. within-narrows _ _))
     (within-value _ (λ b. within-narrows _ _)))))))))
 
--- the method, for the laws of loops
-abbrev pub method : StopRule → Float → Float → Method Brent Turn
-method stop from to =
+-- the turns, for the laws of loops
+abbrev pub turns : StopRule → Turns Brent To
+turns stop =
     record {
-      opening = opening stop from to;
-      turns = λ r. turnsOf stop;
       turn = turnFrom stop;
-      view = viewed;
+      seen = seen;
       end = Ended;
       go = Next;
-      view-end = λ o. refl;
-      view-go = λ s p. refl;
-      opening-small = within-less (within-opening stop from to) (omega arith) (omega arith) (omega arith);
-      turn-small = λ s. within-less (within-turn stop s) (omega arith) (omega arith) (omega arith);
+      seen-end = λ a. refl;
+      seen-go = λ s. refl;
+      small = λ s. within-less (within-turn stop s) (omega arith) (omega arith) (omega arith);
     }
+
+pub small-opening : (stop : StopRule) (from to : Float) → Within 3 3 3 (opening stop from to)
+small-opening stop from to = within-less (within-opening stop from to) (omega arith) (omega arith) (omega arith)
+
+-- from what the opening came to: the search has ended, or the turns are the rest
+module _ (cs : List Float) (stop : StopRule) (from to : Float) {t : To} {p q : Progress} (f : q ≡ fresh) (e : (seen t, p) ≡ play tallied (oracle cs) (opening stop from to) q) where
+  pub from-end : {a : Answer} → t ≡ Ended a → outcome (a, p) ≡ brent cs stop from to
+  unfolding brent brentProgram
+  from-end = opened-ended (turns stop) _ _ cs f e
+
+  pub from-state : {s : Brent} {n : ℕ} {r : Outcome} → t ≡ Next s → n ≡ turnsOf stop → r ≡ runOf cs (turnFrom stop) n s p → r ≡ brent cs stop from to
+  unfolding brent brentProgram
+  from-state = opened-next (turns stop) _ _ cs f e
 
 module _ (a : List Float) (stop : StopRule) (from to : Float) where
   -- the tallies and the mark reported are those of the history
@@ -69,11 +104,10 @@ module _ (a : List Float) (stop : StopRule) (from to : Float) where
   pub brent-derivatives : brent a stop from to .progress .tally .derivatives .0 ≡ 0
   brent-derivatives = let h = most .derivatives in omega arith
 
--- a turn is what its view says: the contracts by views determine their results
-module _ (stop : StopRule) (from to : Float) where
-  shown : (t : Turn) → Shown (method stop from to) t
-  shown (Ended o) = shown-end o refl
-  shown (Next s p) = shown-go s p refl
+-- where a turn leads is what it stands for: the contracts by views determine their results
+shown : (stop : StopRule) (t : To) → Shown (turns stop) t
+shown stop (Ended a) = shown-end a refl
+shown stop (Next s) = shown-go s refl
 
-  pub turn-once : (x y : Turn) → viewed x ≡ viewed y → x ≡ y
-  turn-once = viewed-once (method stop from to) shown
+pub turn-once : (stop : StopRule) (x y : To) → seen x ≡ seen y → x ≡ y
+turn-once stop = seen-once (turns stop) (shown stop)

@@ -1,4 +1,6 @@
 -- What the contracts of `brent` cite, and what the laws of searches give for it.
 pub mod Brent
+pub mod BrentRule
 pub mod BrentLaws
 pub mod BrentKeeps
+pub mod BrentSamples

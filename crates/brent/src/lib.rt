@@ -4,6 +4,7 @@ use numerical::Outcome;
 use numerical::Progress;
 use numerical::Sample;
 use polynom::Evaluated;
+use searching::Decided;
 use simple_convergency::StopRule;
 ghost use mathlib.Core.Path.{_≡_};
 ghost use mathlib.Core.List.{List};
@@ -11,8 +12,9 @@ ghost use Prim.Native.Nat.{_≤_};
 ghost use lib.Ieee.{Float};
 ghost use Rattle.numerical.specs.Tallies.{Room};
 ghost use Rattle.simple_convergency.specs.declared.StopRule.{StopRule};
-ghost use Rattle.searching.specs.Programs.{ended, valueAt, oracle, play, tallied};
-ghost use Rattle.brent.specs.Brent.{arrange, opened, secondAt, firstAt, opening, inverseQuadratic, chord, threeValues, guessOf, beyondQuarter, tooSlow, stalls, bisects, usedOf, nextOf, keptA, keptB, stepDeparts, arrived, landed, pulledIn, stepWith, stepFrom, turnFrom, brent, viewed};
+ghost use Rattle.searching.specs.Programs.{ended, next, valueAt, oracle, play, tallied};
+ghost use Rattle.searching.specs.LoopLaws.{runOf};
+ghost use Rattle.brent.specs.Brent.{Evaluations, arrange, opened, secondAt, firstAt, opening, inverseQuadratic, chord, threeValues, guessOf, beyondQuarter, tooSlow, stalls, bisects, usedOf, nextOf, keptA, keptB, oppositeBy, arrived, landed, pulledIn, stepWith, stepFrom, turnFrom, brent, viewed};
 
 // Two samples, the larger in size first.
 pub struct Arranged {
@@ -29,16 +31,32 @@ pub struct Brent {
     pub flag: bool,
 }
 
-pub enum Turn {
-    Ended(Outcome),
-    Next(Brent, Progress),
+// Where a turn leads: to the search's end, or to the next state.
+pub enum To {
+    Ended(Answer),
+    Next(Brent),
+}
+
+// A turn of the search, with what the run has done after it.
+pub struct Turn {
+    pub to: To,
+    pub progress: Progress,
 }
 
 // The search ends with this answer.
 fn ended(answer: Answer, progress: Progress) -> Turn
     ensures { λ r. ⌜ viewed r ≡ (ended answer, progress) ⌝ }
 {
-    Turn::Ended(Outcome { answer, progress })
+    let to = To::Ended(answer);
+    Turn { to, progress }
+}
+
+// The search goes on from this state.
+fn goes_on(state: Brent, progress: Progress) -> Turn
+    ensures { λ r. ⌜ viewed r ≡ (next state, progress) ⌝ }
+{
+    let to = To::Next(state);
+    Turn { to, progress }
 }
 
 // The larger in size comes first, and on a tie the second.
@@ -60,11 +78,12 @@ fn opened(pair: Arranged, p: Progress) -> Turn
 {
     let a = pair.a;
     let b = pair.b;
-    let marked = p.ruled(1, searching::product_departs(a, b));
-    if doubles::same_sign(a.y, b.y) {
+    let decided = searching::alike(a, b, p);
+    let marked = decided.progress;
+    if decided.holds {
         return ended(Answer::Refused(6), marked);
     }
-    Turn::Next(
+    goes_on(
         Brent {
             a,
             b,
@@ -203,13 +222,10 @@ fn used_of(bisecting: bool, s: Brent, x: f64) -> f64
 
 // ---- a step
 
-// The state after a step: its pair is p and q arranged, b becomes c, and c becomes d.
-fn next_of(s: Brent, flag: bool, p: Sample, q: Sample) -> Brent
-    ensures { λ r. ⌜ r ≡ nextOf s flag (arrange p q) ⌝ }
+// The state after a step: its pair is a and b, the b before becomes c, and c becomes d.
+fn moved(s: Brent, flag: bool, a: Sample, b: Sample) -> Brent
+    ensures { λ r. ⌜ r ≡ nextOf s flag (record { a = a; b = b }) ⌝ }
 {
-    let pair = arrange(p, q);
-    let a = pair.a;
-    let b = pair.b;
     let c = s.b;
     Brent {
         a,
@@ -220,61 +236,80 @@ fn next_of(s: Brent, flag: bool, p: Sample, q: Sample) -> Brent
     }
 }
 
-// The sample p replaces b, and the kept a is evaluated again.
-fn keep_a(a: &[f64], s: Brent, flag: bool, p: Sample, progress: Progress) -> Turn
+// The sample p replaces b. The kept a is counted as evaluated again: its value is known. The larger comes first, and each case goes on by itself, which is faster than to choose both ends.
+fn keep_a(s: Brent, flag: bool, p: Sample, progress: Progress) -> Turn
     requires { ⌜ Room 2 progress ⌝ }
-    ensures { λ r. ⌜ viewed r ≡ play tallied (oracle (now (a .entry))) (valueAt (s .a .x) (keptA s flag p)) progress ⌝ }
+    ensures { λ r. ⌜ ((cs : List Float) → Evaluations cs s → viewed r ≡ play tallied (oracle cs) (valueAt (s .a .x) (keptA s flag p)) progress) ⌝ }
 {
+    let kept = s.a;
     let counted = progress.valued();
-    let e = polynom::evaluate(a, s.a.x);
-    let Evaluated::At(kept) = e else {
-        return ended(Answer::Refused(9), counted);
-    };
-    Turn::Next(next_of(s, flag, kept, p), counted.stepped())
+    if doubles::abs(kept.y) > doubles::abs(p.y) {
+        return goes_on(moved(s, flag, kept, p), counted.stepped());
+    }
+    goes_on(moved(s, flag, p, kept), counted.stepped())
 }
 
-// The sample p replaces a, and the kept b is evaluated again.
-fn keep_b(a: &[f64], s: Brent, flag: bool, p: Sample, progress: Progress) -> Turn
+// The sample p replaces a, and b is kept, likewise.
+fn keep_b(s: Brent, flag: bool, p: Sample, progress: Progress) -> Turn
     requires { ⌜ Room 2 progress ⌝ }
-    ensures { λ r. ⌜ viewed r ≡ play tallied (oracle (now (a .entry))) (valueAt (s .b .x) (keptB s flag p)) progress ⌝ }
+    ensures { λ r. ⌜ ((cs : List Float) → Evaluations cs s → viewed r ≡ play tallied (oracle cs) (valueAt (s .b .x) (keptB s flag p)) progress) ⌝ }
 {
+    let kept = s.b;
     let counted = progress.valued();
-    let e = polynom::evaluate(a, s.b.x);
-    let Evaluated::At(kept) = e else {
-        return ended(Answer::Refused(9), counted);
-    };
-    Turn::Next(next_of(s, flag, p, kept), counted.stepped())
+    if doubles::abs(p.y) > doubles::abs(kept.y) {
+        return goes_on(moved(s, flag, p, kept), counted.stepped());
+    }
+    goes_on(moved(s, flag, kept, p), counted.stepped())
 }
 
-// Whether the Rust's test, that the product is below zero, differs from the test of signs.
-fn step_departs(p: Sample, q: Sample) -> bool
-    ensures { λ r. ⌜ r ≡ stepDeparts p q ⌝ }
+// Rule 1: whether the values have opposite signs, with the mark where the product says otherwise. A product that is not zero tells the signs.
+fn opposite(p: Sample, q: Sample, progress: Progress) -> Decided
+    ensures { λ r. ⌜ r ≡ oppositeBy p q progress ⌝ }
 {
-    let below = p.y * q.y < 0.0;
+    let product = p.y * q.y;
+    if product < 0.0 {
+        return Decided {
+            holds: true,
+            progress,
+        };
+    }
+    if product > 0.0 {
+        return Decided {
+            holds: false,
+            progress,
+        };
+    }
     if doubles::opposite_sign(p.y, q.y) {
-        !below
+        Decided {
+            holds: true,
+            progress: progress.ruled(1, true),
+        }
     } else {
-        below
+        Decided {
+            holds: false,
+            progress,
+        }
     }
 }
 
 // Where a has the sign opposite to that of the sample p, a is kept, otherwise b.
-fn arrived(a: &[f64], s: Brent, flag: bool, p: Sample, progress: Progress) -> Turn
+fn arrived(s: Brent, flag: bool, p: Sample, progress: Progress) -> Turn
     requires { ⌜ Room 2 progress ⌝ }
-    ensures { λ r. ⌜ viewed r ≡ play tallied (oracle (now (a .entry))) (arrived s flag p) progress ⌝ }
+    ensures { λ r. ⌜ ((cs : List Float) → Evaluations cs s → viewed r ≡ play tallied (oracle cs) (arrived s flag p) progress) ⌝ }
 {
     let end = s.a;
-    let marked = progress.ruled(1, step_departs(end, p));
-    if doubles::opposite_sign(end.y, p.y) {
-        keep_a(a, s, flag, p, marked)
+    let apart = opposite(end, p, progress);
+    let marked = apart.progress;
+    if apart.holds {
+        keep_a(s, flag, p, marked)
     } else {
-        keep_b(a, s, flag, p, marked)
+        keep_b(s, flag, p, marked)
     }
 }
 
 // The point x is evaluated.
 fn landed(a: &[f64], s: Brent, flag: bool, x: f64, progress: Progress) -> Turn
-    requires { ⌜ Room 3 progress ⌝ }
+    requires { ⌜ Room 3 progress × Evaluations (now a) s ⌝ }
     ensures { λ r. ⌜ viewed r ≡ play tallied (oracle (now (a .entry))) (landed s flag x) progress ⌝ }
 {
     let counted = progress.valued();
@@ -282,23 +317,24 @@ fn landed(a: &[f64], s: Brent, flag: bool, x: f64, progress: Progress) -> Turn
     let Evaluated::At(p) = e else {
         return ended(Answer::Refused(9), counted);
     };
-    arrived(a, s, flag, p, counted)
+    arrived(s, flag, p, counted)
 }
 
 // A point outside the pair becomes the nearer end.
 fn pulled_in(a: &[f64], s: Brent, flag: bool, x: f64, progress: Progress) -> Turn
-    requires { ⌜ Room 3 progress ⌝ }
+    requires { ⌜ Room 3 progress × Evaluations (now a) s ⌝ }
     ensures { λ r. ⌜ viewed r ≡ play tallied (oracle (now (a .entry))) (pulledIn s flag x) progress ⌝ }
 {
     let u = s.a.x;
     let v = s.b.x;
-    let marked = progress.ruled(2, doubles::is_outside(u, v, x));
-    landed(a, s, flag, doubles::pulled(u, v, x), marked)
+    let placed = searching::pull(u, v, x, progress);
+    let marked = placed.progress;
+    landed(a, s, flag, placed.x, marked)
 }
 
 // Only the point that is used is refused or pulled; the flag is set before.
 fn step_with(a: &[f64], s: Brent, bisecting: bool, guess: f64, progress: Progress) -> Turn
-    requires { ⌜ Room 3 progress ⌝ }
+    requires { ⌜ Room 3 progress × Evaluations (now a) s ⌝ }
     ensures { λ r. ⌜ viewed r ≡ play tallied (oracle (now (a .entry))) (stepWith s bisecting guess) progress ⌝ }
 {
     let x = used_of(bisecting, s, guess);
@@ -311,7 +347,7 @@ fn step_with(a: &[f64], s: Brent, bisecting: bool, guess: f64, progress: Progres
 
 // A step from the guess.
 fn step_from(a: &[f64], stop: StopRule, s: Brent, progress: Progress) -> Turn
-    requires { ⌜ Room 3 progress ⌝ }
+    requires { ⌜ Room 3 progress × Evaluations (now a) s ⌝ }
     ensures { λ r. ⌜ viewed r ≡ play tallied (oracle (now (a .entry))) (stepFrom stop s (guessOf s)) progress ⌝ }
 {
     let guess = guess_of(s);
@@ -320,7 +356,7 @@ fn step_from(a: &[f64], stop: StopRule, s: Brent, progress: Progress) -> Turn
 
 // A round: found at a, found at b, converged, and a step.
 fn take_turn(a: &[f64], stop: StopRule, s: Brent, p: Progress) -> Turn
-    requires { ⌜ Room 3 p ⌝ }
+    requires { ⌜ Room 3 p × Evaluations (now a) s ⌝ }
     ensures { λ r. ⌜ viewed r ≡ play tallied (oracle (now (a .entry))) (turnFrom stop s) p ⌝ }
 {
     let first = s.a;
@@ -358,28 +394,43 @@ fn take_turn(a: &[f64], stop: StopRule, s: Brent, p: Progress) -> Turn
 
 // ---- the search
 
-// At most as many rounds as the stop rule has turns; the last step's sample is not tested.
+// From a state on: at most so many rounds; the last step's sample is not tested.
+fn searched(a: &[f64], stop: StopRule, begun: Brent, progress: Progress, most: u64) -> Outcome
+    requires { ⌜ (most ≤ 400) × Room 2000 progress × Evaluations (now a) begun ⌝ }
+    ensures { λ r. ⌜ r ≡ runOf (now (a .entry)) (turnFrom stop) most begun progress ⌝ }
+{
+    let mut s = begun;
+    let mut p = progress;
+    let mut n: u64 = 0;
+    while n < most {
+        let turn = take_turn(a, stop, s, p);
+        let to = turn.to;
+        p = turn.progress;
+        match to {
+            To::Ended(answer) => return Outcome {
+                answer,
+                progress: p,
+            },
+            To::Next(next) => s = next,
+        }
+        n += 1;
+    }
+    Outcome {
+        answer: Answer::Refused(8),
+        progress: p,
+    }
+}
+
+// A root by Brent's method between two points: the opening, and the rounds from there.
 pub fn find_root(a: &[f64], stop: StopRule, from: f64, to: f64) -> Outcome
     requires { ⌜ stop .limit ≤ 400 ⌝ }
     ensures { λ r. ⌜ r ≡ brent (now (a .entry)) stop from to ⌝ }
 {
-    let most = stop.turns();
-    let mut turn = opening(a, from, to, Progress::fresh());
-    let mut n: u64 = 0;
-    while n < most {
-        match turn {
-            Turn::Ended(outcome) => return outcome,
-            Turn::Next(s, p) => {
-                turn = take_turn(a, stop, s, p);
-            }
-        }
-        n += 1;
-    }
-    match turn {
-        Turn::Ended(outcome) => outcome,
-        Turn::Next(_, p) => Outcome {
-            answer: Answer::Refused(8),
-            progress: p,
-        },
+    let turn = opening(a, from, to, Progress::fresh());
+    let reached = turn.to;
+    let progress = turn.progress;
+    match reached {
+        To::Ended(answer) => Outcome { answer, progress },
+        To::Next(begun) => searched(a, stop, begun, progress, stop.turns()),
     }
 }

@@ -59,3 +59,10 @@ pulled u v x = cond (le u v) (clamp u v x) (clamp v u x)
 
 unfoldable pub outside : Float → Float → Float → Bool
 outside u v x = cond (le u v) (beyond u v x) (beyond v u x)
+
+-- of two numbers; where one is a NaN, the lower is the second and the higher the first
+abbrev pub lower : Float → Float → Float
+lower u v = cond (lt u v) u v
+
+abbrev pub higher : Float → Float → Float
+higher u v = cond (lt u v) v u

@@ -4,4 +4,5 @@ pub mod Compare
 pub mod Number
 pub mod Pairs
 pub mod Signs
+pub mod Products
 pub mod Examples

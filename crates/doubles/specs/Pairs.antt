@@ -6,10 +6,10 @@ use mathlib.Core.Bool.{Bool, true, false, cond, true≢false}
 use lib.Dec.{T}
 use lib.IntN.{ℤ}
 use lib.Signed.{_≤ℤ_}
-use lib.Ieee.{Float, le}
+use lib.Ieee.{Float, lt, le}
 use lib.Ieee.Bits.{is-true}
-use Rattle.doubles.specs.Doubles.{orderOf, clamp, beyond, pulled, outside}
-use Rattle.doubles.specs.Compare.{Num, of-true, le-nums, le-refl, le-trans, le-total, lt→le, clamp-between, clamp-inside, clamp-one, beyond-inside}
+use Rattle.doubles.specs.Doubles.{orderOf, clamp, beyond, pulled, lower, higher, outside}
+use Rattle.doubles.specs.Compare.{Num, of-true, same-test, le-nums, le-refl, le-trans, le-total, lt→le, no-lt-le, lt-le-trans, le-lt-trans, clamp-between, clamp-inside, clamp-one, beyond-inside}
 use Rattle.doubles.specs.Number.{Double, le-order}
 
 -- between two points, ends included, whichever is the smaller
@@ -147,6 +147,24 @@ inside-not-outside u v x (inr t) = go (le u v) (of-true (le u v))
 -- A point is not outside just when it lies between the two.
 pub outside-inside : (u v x : Float) → Num u → Num v → Num x → (outside u v x ≡ false) ↔ Inside u v x
 outside-inside u v x p q n = (λ h. subst (Inside u v) (pulled-unmoved u v x h) (pulled-inside u v x p q n), inside-not-outside u v x)
+
+-- What lies outside a pair is beyond the lower and the higher of the two: equal ends may change places.
+pub outside-beyond : (u v x : Float) → beyond (lower u v) (higher u v) x ≡ outside u v x
+unfolding outside
+outside-beyond u v x = go (lt u v) (le u v) refl refl
+  where
+    swapped : T (le u v) → T (le v u) → beyond v u x ≡ beyond u v x
+    swapped s t =
+        rw (
+          same-test (lt x v) (lt x u) (λ h. lt-le-trans x v u h t) (λ h. lt-le-trans x u v h s),
+          same-test (lt u x) (lt v x) (λ h. le-lt-trans v u x t h) (λ h. le-lt-trans u v x s h),
+        ) refl
+
+    go : (b c : Bool) → lt u v ≡ b → le u v ≡ c → beyond (cond b u v) (cond b v u) x ≡ cond c (beyond u v x) (beyond v u x)
+    go true true d e = refl
+    go true false d e = absurd (true≢false (sym (is-true (le u v) (lt→le u v (of-true (lt u v) d))) ∙ e))
+    go false true d e = let t = of-true (le u v) e in let n = le-nums u v t in swapped t (no-lt-le v u (n .1) (n .0) (λ h. subst T d h))
+    go false false d e = refl
 
 -- ---- between, by the order number
 

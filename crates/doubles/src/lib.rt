@@ -1,7 +1,7 @@
 // Doubles: which are finite, their size, signs and order, and a point pulled into a pair.
 ghost use mathlib.Core.Path.{_≡_};
 ghost use lib.Ieee.Scale.{finite};
-ghost use Rattle.doubles.specs.Doubles.{absolute, above, below, sameSign, oppositeSign, orderOf, ofOrder, clamp, beyond, pulled, outside};
+ghost use Rattle.doubles.specs.Doubles.{absolute, above, below, sameSign, oppositeSign, orderOf, ofOrder, clamp, beyond, pulled, lower, higher, outside};
 
 // Whether x is a number and its eleven exponent bits are not all ones.
 pub fn is_finite(x: f64) -> bool
@@ -119,13 +119,23 @@ pub fn pulled(u: f64, v: f64, x: f64) -> f64
     }
 }
 
-// Whether x lies outside of the pair u, v, in either order.
+// The lower of two numbers.
+fn lower(u: f64, v: f64) -> f64
+    ensures { λ r. ⌜ r ≡ lower u v ⌝ }
+{
+    if u < v { u } else { v }
+}
+
+// The higher of two numbers.
+fn higher(u: f64, v: f64) -> f64
+    ensures { λ r. ⌜ r ≡ higher u v ⌝ }
+{
+    if u < v { v } else { u }
+}
+
+// Whether x lies outside of the pair u, v, in either order. The order is not branched on: it is as good as random.
 pub fn is_outside(u: f64, v: f64, x: f64) -> bool
     ensures { λ r. ⌜ r ≡ outside u v x ⌝ }
 {
-    if u <= v {
-        is_beyond(u, v, x)
-    } else {
-        is_beyond(v, u, x)
-    }
+    is_beyond(lower(u, v), higher(u, v), x)
 }

@@ -13,8 +13,9 @@ use Rattle.polynom.specs.Polynom.{one}
 use Rattle.polynom.specs.declared.ValueAndDerivative.{ValueAndDerivative}
 use Rattle.searching.specs.Programs.{found, converged, flat, Prog, Turned, ended, next, test, stops, answers, refuses, byValue, bothAt, offered, stepsTo, searches, answerOf}
 use Rattle.newton_raphson.specs.declared.Spot.{Spot}
+use Rattle.newton_raphson.specs.declared.To.{To}
+use Rattle.newton_raphson.specs.declared.To.the-variants.{Ended, Next}
 use Rattle.newton_raphson.specs.declared.Turn.{Turn}
-use Rattle.newton_raphson.specs.declared.Turn.the-variants.{Ended, Next}
 
 -- ---- a step
 
@@ -80,6 +81,9 @@ newtonRaphson a stop start = answerOf a (newtonProgram stop start)
 
 -- ---- what a turn of the code stands for
 
+abbrev pub seen : To → Turned Spot
+seen (Ended a) = ended a
+seen (Next s) = next s
+
 abbrev pub viewed : Turn → Turned Spot × Progress
-viewed (Ended o) = (ended (o .answer), o .progress)
-viewed (Next s p) = (next s, p)
+viewed t = (seen (t .to), t .progress)

@@ -1,8 +1,8 @@
 -- Each answer of Newton's method has its reason in the history, which has no mark.
-use Prim.Native.Nat.{ℕ, zero, suc, _+_, _-_, max}
+use Prim.Native.Nat.{ℕ, suc, _+_, _-_, max}
 use native.Mathlib.Omega.{arith}
 use mathlib.Core.Bool.{Bool, true, false, cond}
-use mathlib.Core.List.{List, []}
+use mathlib.Core.List.{List, [], _∷_}
 use mathlib.Core.Path.{_≡_, refl, subst}
 use lib.Ieee.{Float}
 use lib.Ieee.Scale.{finite}
@@ -12,9 +12,9 @@ use Rattle.simple_convergency.specs.declared.StopRule.{StopRule}
 use Rattle.polynom.specs.Polynom.{valueAndDerivative, evaluatedBoth}
 use Rattle.polynom.specs.declared.ValueAndDerivative.{ValueAndDerivative}
 use Rattle.polynom.specs.declared.EvaluatedBoth.the-variants.{Both, NotBothFinite}
-use Rattle.searching.specs.Programs.{oracle, Event, Prog, Turned}
+use Rattle.searching.specs.Programs.{found, tested, oracle, Event, noted, Prog, Turned}
 use Rattle.searching.specs.Histories.{stepsIn, markIn}
-use Rattle.searching.specs.Keeps.{Ends, After, ends-done, ends-test, ends-stops, ends-both, ends-offered, ends-steps, ends-searches}
+use Rattle.searching.specs.Keeps.{Ends, After, branches, ends-done, ends-stops, ends-both, ends-offered, ends-steps, ends-searches}
 use Rattle.searching.specs.Reasons.{someEnds, True, Slope, derivative-at, Unmarked, Plain, by-value, by-width, of-flatness, of-derivative, of-candidate}
 use Rattle.searching.specs.ReasonLaws.{answered-both, not-answered-both, plain-on, plain-next, plain-going, plain-limit}
 use Rattle.newton_raphson.specs.NewtonRaphson.{landed, onward, laterAt, turnFrom, nudgedTo, nudge, firstAt, opening, turnsLeft, newtonProgram}
@@ -101,8 +101,9 @@ module _ (a : List Float) (stop : StopRule) (start : Float) where
   keeps-first v h t e i =
       ends-stops stop _ (λ f. ends-done (record { reason = by-value t f (plain-going i); unmarked = i .unmarked }))
       (λ f.
-      ends-test _ (λ g. keeps-nudge _ _ (plain-on (known true (rw e g)) refl (rw f refl) refl))
-      (λ g. keeps-onward left v _ (plain-on (known false (rw e g)) refl (rw f refl) refl)))
+      let flat : foundAt stop (v .derivative) ≡ true → Reaches left (nudge (v .value .x)) (noted (tested (found (v .value)) false) ∷ h) = λ g. keeps-nudge _ _ (plain-on (known true (rw e g)) refl (rw f refl) refl) in
+      let steep : foundAt stop (v .derivative) ≡ false → Reaches left (onward stop v) (noted (tested (found (v .value)) false) ∷ h) = λ g. keeps-onward left v _ (plain-on (known false (rw e g)) refl (rw f refl) refl) in
+      search (branches, flat, steep))
     where
       known : (b : Bool) → flatStart ≡ b → Stands (suc (left b)) h
       known b s = subst (λ (c : Bool). Stands (suc (left c)) h) s i

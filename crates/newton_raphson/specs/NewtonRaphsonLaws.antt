@@ -6,19 +6,22 @@ use mathlib.Core.Bool.{Bool, true, false, cond}
 use mathlib.Core.List.{List}
 use mathlib.Core.Path.{_≡_, refl}
 use lib.Ieee.{Float}
+use Rattle.numerical.specs.Answers.{outcome}
 use Rattle.numerical.specs.Tallies.{fresh}
+use Rattle.numerical.specs.declared.Answer.{Answer}
+use Rattle.numerical.specs.declared.Outcome.{Outcome}
 use Rattle.numerical.specs.declared.Progress.{Progress}
 use Rattle.simple_convergency.specs.declared.StopRule.{StopRule}
 use Rattle.polynom.specs.declared.ValueAndDerivative.{ValueAndDerivative}
-use Rattle.searching.specs.Programs.{Turned, ended, next, oracle}
+use Rattle.searching.specs.Programs.{Turned, ended, next, oracle, play, tallied}
 use Rattle.searching.specs.Histories.{history}
 use Rattle.searching.specs.ProgramLaws.{tallies-are-counts, counted}
 use Rattle.searching.specs.Bounds.{Within, More, within-done, within-test, within-stops, within-both, within-offered, within-steps, within-less, within-searches, answer-within}
-use Rattle.searching.specs.LoopLaws.{Method, Shown, shown-end, shown-go, viewed-once}
-use Rattle.newton_raphson.specs.NewtonRaphson.{landed, onward, laterAt, turnFrom, nudgedTo, nudge, firstAt, opening, turnsLeft, newtonProgram, newtonRaphson, viewed}
+use Rattle.searching.specs.LoopLaws.{Turns, runOf, opened-ended, opened-next, Shown, shown-end, shown-go, seen-once}
+use Rattle.newton_raphson.specs.NewtonRaphson.{landed, onward, laterAt, turnFrom, nudgedTo, nudge, firstAt, opening, turnsLeft, newtonProgram, newtonRaphson, seen}
 use Rattle.newton_raphson.specs.declared.Spot.{Spot}
-use Rattle.newton_raphson.specs.declared.Turn.{Turn}
-use Rattle.newton_raphson.specs.declared.Turn.the-variants.{Ended, Next}
+use Rattle.newton_raphson.specs.declared.To.{To}
+use Rattle.newton_raphson.specs.declared.To.the-variants.{Ended, Next}
 
 -- going on asks for nothing
 within-onward : (stop : StopRule) (v : ValueAndDerivative) → Within 0 0 1 (onward stop v)
@@ -38,21 +41,31 @@ pub within-opening : (stop : StopRule) (start : Float) → Within 1 1 1 (opening
 unfolding opening firstAt
 within-opening stop start = within-both _ (λ v. search (within-stops, within-test, within-done, within-nudge, within-onward))
 
--- the method, for the laws of loops
-abbrev pub method : StopRule → Float → Method Spot Turn
-method stop start =
+-- the turns, for the laws of loops
+abbrev pub turns : StopRule → Turns Spot To
+turns stop =
     record {
-      opening = opening stop start;
-      turns = turnsLeft stop;
       turn = turnFrom stop;
-      view = viewed;
+      seen = seen;
       end = Ended;
       go = Next;
-      view-end = λ o. refl;
-      view-go = λ s p. refl;
-      opening-small = within-less (within-opening stop start) (omega arith) (omega arith) (omega arith);
-      turn-small = λ s. within-less (within-turn stop s) (omega arith) (omega arith) (omega arith);
+      seen-end = λ a. refl;
+      seen-go = λ s. refl;
+      small = λ s. within-less (within-turn stop s) (omega arith) (omega arith) (omega arith);
     }
+
+pub small-opening : (stop : StopRule) (start : Float) → Within 3 3 3 (opening stop start)
+small-opening stop start = within-less (within-opening stop start) (omega arith) (omega arith) (omega arith)
+
+-- from what the opening came to: the search has ended, or the turns are the rest
+module _ (cs : List Float) (stop : StopRule) (start : Float) {t : To} {p q : Progress} (f : q ≡ fresh) (e : (seen t, p) ≡ play tallied (oracle cs) (opening stop start) q) where
+  pub from-end : {a : Answer} → t ≡ Ended a → outcome (a, p) ≡ newtonRaphson cs stop start
+  unfolding newtonRaphson newtonProgram
+  from-end = opened-ended (turns stop) _ _ cs f e
+
+  pub from-state : {s : Spot} {n : ℕ} {r : Outcome} → t ≡ Next s → n ≡ turnsLeft stop (next s) → r ≡ runOf cs (turnFrom stop) n s p → r ≡ newtonRaphson cs stop start
+  unfolding newtonRaphson newtonProgram
+  from-state = opened-next (turns stop) _ _ cs f e
 
 -- at most max 2 limit - 1 passes are left after the first
 left-most : (stop : StopRule) (r : Turned Spot) → turnsLeft stop r ≤ max 2 (stop .limit) - 1
@@ -65,10 +78,6 @@ left-most stop (next s) = either (s .nudged)
 
 pub left-few : (stop : StopRule) {most : ℕ} (r : Turned Spot) → stop .limit ≤ 400 → most ≡ turnsLeft stop r → most ≤ 400
 left-few stop r h e = omega (arith, left-most stop r)
-
--- the passes left at a turn that goes on are those left at its spot
-pub left-at : (stop : StopRule) (t : Turn) {s : Spot} {p : Progress} {r : ℕ} → t ≡ Next s p → r ≡ turnsLeft stop (next s) → r ≡ turnsLeft stop (viewed t .0)
-left-at stop t e h = rw e h
 
 module _ (a : List Float) (stop : StopRule) (start : Float) where
   -- what is reported is what the history holds
@@ -88,11 +97,10 @@ module _ (a : List Float) (stop : StopRule) (start : Float) where
   pub newton-raphson-derivatives : newtonRaphson a stop start .progress .tally .derivatives .0 ≤ max 2 (stop .limit)
   newton-raphson-derivatives = let h = more .derivatives in omega (arith, mul-one (max 2 (stop .limit) - 1))
 
--- a turn is what its view says: the contracts by views determine their results
-module _ (stop : StopRule) (start : Float) where
-  shown : (t : Turn) → Shown (method stop start) t
-  shown (Ended o) = shown-end o refl
-  shown (Next s p) = shown-go s p refl
+-- where a turn leads is what it stands for: the contracts by views determine their results
+shown : (stop : StopRule) (t : To) → Shown (turns stop) t
+shown stop (Ended a) = shown-end a refl
+shown stop (Next s) = shown-go s refl
 
-  pub turn-once : (x y : Turn) → viewed x ≡ viewed y → x ≡ y
-  turn-once = viewed-once (method stop start) shown
+pub turn-once : (stop : StopRule) (x y : To) → seen x ≡ seen y → x ≡ y
+turn-once stop = seen-once (turns stop) (shown stop)

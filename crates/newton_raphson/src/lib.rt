@@ -13,25 +13,41 @@ ghost use lib.Ieee.{Float};
 ghost use Rattle.numerical.specs.Tallies.{Room};
 ghost use Rattle.numerical.specs.declared.Answer.the-variants.{ByValue};
 ghost use Rattle.searching.specs.Programs.{ended, next, oracle, play, tallied};
+ghost use Rattle.searching.specs.LoopLaws.{runOf};
 ghost use Rattle.newton_raphson.specs.NewtonRaphson.{newtonPoint, landed, onward, laterAt, turnFrom, nudge, firstAt, opening, turnsLeft, newtonRaphson, viewed};
 
-// Where the search stands, and whether the step that led there was the nudge.
+// Where the search stands, and whether the step that led there was the nudge: first, where an answer has its kind, so that x lies where a root does.
 pub struct Spot {
-    pub x: f64,
     pub nudged: bool,
+    pub x: f64,
 }
 
-// Where a turn leaves the search: at its end, or at the next state.
-pub enum Turn {
-    Ended(Outcome),
-    Next(Spot, Progress),
+// Where a turn leads: to the search's end, or to the next spot.
+pub enum To {
+    Ended(Answer),
+    Next(Spot),
+}
+
+// A turn of the search, with what the run has done after it.
+pub struct Turn {
+    pub to: To,
+    pub progress: Progress,
 }
 
 // The search ends here.
 fn ended(answer: Answer, progress: Progress) -> Turn
     ensures { λ r. ⌜ viewed r ≡ (ended answer, progress) ⌝ }
 {
-    Turn::Ended(Outcome { answer, progress })
+    let to = To::Ended(answer);
+    Turn { to, progress }
+}
+
+// The search goes on from this spot.
+fn goes_on(spot: Spot, progress: Progress) -> Turn
+    ensures { λ r. ⌜ viewed r ≡ (next spot, progress) ⌝ }
+{
+    let to = To::Next(spot);
+    Turn { to, progress }
 }
 
 // The sample is a root by its value.
@@ -71,7 +87,7 @@ fn landed(stop: StopRule, x: f64, x1: f64, progress: Progress) -> Turn
             progress,
         );
     }
-    Turn::Next(
+    goes_on(
         Spot {
             x: x1,
             nudged: false,
@@ -130,7 +146,7 @@ fn nudge(x: f64, progress: Progress) -> Turn
 {
     let y = x + 1.0;
     if doubles::is_finite(y) {
-        Turn::Next(Spot { x: y, nudged: true }, progress.stepped())
+        goes_on(Spot { x: y, nudged: true }, progress.stepped())
     } else {
         ended(Answer::Refused(9), progress)
     }
@@ -180,13 +196,30 @@ fn passes_left(stop: StopRule, s: Spot) -> u64
     }
 }
 
-// The passes left after the first: none after an end.
-fn turns_left(stop: StopRule, turn: Turn) -> u64
-    ensures { λ r. ⌜ r ≡ turnsLeft stop (viewed turn .0) ⌝ }
+// From a spot on: a pass at a time, until an end or the limit.
+fn searched(a: &[f64], stop: StopRule, begun: Spot, progress: Progress, most: u64) -> Outcome
+    requires { ⌜ (most ≤ 400) × Room 2000 progress ⌝ }
+    ensures { λ r. ⌜ r ≡ runOf (now (a .entry)) (turnFrom stop) most begun progress ⌝ }
 {
-    match turn {
-        Turn::Ended(_) => 0,
-        Turn::Next(s, _) => passes_left(stop, s),
+    let mut s = begun;
+    let mut p = progress;
+    let mut n: u64 = 0;
+    while n < most {
+        let turn = take_turn(a, stop, s, p);
+        let to = turn.to;
+        p = turn.progress;
+        match to {
+            To::Ended(answer) => return Outcome {
+                answer,
+                progress: p,
+            },
+            To::Next(next) => s = next,
+        }
+        n += 1;
+    }
+    Outcome {
+        answer: Answer::Refused(8),
+        progress: p,
     }
 }
 
@@ -195,23 +228,11 @@ pub fn find_root(a: &[f64], stop: StopRule, start: f64) -> Outcome
     requires { ⌜ stop .limit ≤ 400 ⌝ }
     ensures { λ r. ⌜ r ≡ newtonRaphson (now (a .entry)) stop start ⌝ }
 {
-    let mut turn = opened(a, stop, start, Progress::fresh());
-    let most = turns_left(stop, turn);
-    let mut n: u64 = 0;
-    while n < most {
-        match turn {
-            Turn::Ended(outcome) => return outcome,
-            Turn::Next(s, p) => {
-                turn = take_turn(a, stop, s, p);
-            }
-        }
-        n += 1;
-    }
-    match turn {
-        Turn::Ended(outcome) => outcome,
-        Turn::Next(_, p) => Outcome {
-            answer: Answer::Refused(8),
-            progress: p,
-        },
+    let turn = opened(a, stop, start, Progress::fresh());
+    let to = turn.to;
+    let progress = turn.progress;
+    match to {
+        To::Ended(answer) => Outcome { answer, progress },
+        To::Next(begun) => searched(a, stop, begun, progress, passes_left(stop, begun)),
     }
 }

@@ -13,9 +13,10 @@ use Rattle.simple_convergency.specs.declared.StopRule.{StopRule}
 use Rattle.doubles.specs.Doubles.{nought, absolute, sameSign}
 use Rattle.numerical.specs.Middle.{middleOf}
 use Rattle.polynom.specs.declared.ValueAndDerivative.{ValueAndDerivative}
-use Rattle.searching.specs.Programs.{found, converged, ruled, Prog, log, Turned, ended, next, test, stops, answers, byValue, valueAt, bothAt, offered, pulledInto, productDeparts, bracketed, narrowsTo, searches, answerOf}
+use Rattle.searching.specs.Programs.{rising, found, converged, ruled, Prog, log, Turned, ended, next, test, stops, answers, byValue, valueAt, bothAt, offered, pulledInto, productDeparts, bracketed, narrowsTo, searches, answerOf}
+use Rattle.polynom_search.specs.declared.To.{To}
+use Rattle.polynom_search.specs.declared.To.the-variants.{Ended, Next}
 use Rattle.polynom_search.specs.declared.Turn.{Turn}
-use Rattle.polynom_search.specs.declared.Turn.the-variants.{Ended, Next}
 
 -- ---- the opening: "Both ends are evaluated, then 6, even when an end is within eps"
 
@@ -30,7 +31,7 @@ ordered stop begin end = valueAt begin (firstAt stop end)
 
 -- "Starts are ordered likewise": smaller first, and equal ones keep their order
 unfoldable pub opening : StopRule → Float → Float → Prog (Turned Interval)
-opening stop a b = test (lt b a) (ordered stop b a) (ordered stop a b)
+opening stop a b = rising a b (ordered stop)
 
 -- ---- a step
 
@@ -103,6 +104,9 @@ polynomSearch cs stop a b = answerOf cs (polynomProgram stop a b)
 
 -- ---- what a turn of the code stands for
 
+abbrev pub seen : To → Turned Interval
+seen (Ended a) = ended a
+seen (Next i) = next i
+
 abbrev pub viewed : Turn → Turned Interval × Progress
-viewed (Ended o) = (ended (o .answer), o .progress)
-viewed (Next s p) = (next s, p)
+viewed t = (seen (t .to), t .progress)

@@ -21,7 +21,7 @@ use Rattle.numerical.specs.declared.Sample.{Sample}
 use Rattle.simple_convergency.specs.Stop.{turnsOf}
 use Rattle.simple_convergency.specs.declared.StopRule.{StopRule}
 use Rattle.polynom.specs.declared.ValueAndDerivative.{ValueAndDerivative}
-use Rattle.searching.specs.Programs.{found, converged, candidate, ruled, Prog, Turned, Event, noted, oracle}
+use Rattle.searching.specs.Programs.{found, converged, candidate, ruled, Prog, Turned, Event, noted, rising, oracle}
 use Rattle.searching.specs.Histories.{stepsIn}
 use Rattle.searching.specs.Reasons.{someEnds, by-middle, of-derivative, of-middle}
 use Rattle.searching.specs.ReasonLaws.{Answered, answered-both, not-answered-both}
@@ -111,7 +111,7 @@ module _ (a : List Float) (stop : StopRule) (from to : Float) (from-double : Dou
     keeps-ordered = unpaired-value unpaired-none u u-double (λ p t i. keeps-first p _ t i)
 
   keeps-opening : Reaches (turnsOf stop) (opening stop from to) []
-  unfolding opening
+  unfolding opening rising
   keeps-opening = ends-test (lt to from) (λ e. keeps-ordered to from to-double from-double (λ i p q. inr (p, q))) (λ e. keeps-ordered from to from-double to-double (λ i p q. inl (p, q)))
 
   -- ---- a step

@@ -5,22 +5,26 @@ use native.Mathlib.Nat.{le-refl}
 use mathlib.Core.List.{List}
 use mathlib.Core.Path.{_≡_, refl}
 use lib.Ieee.{Float}
+use Rattle.numerical.specs.Answers.{outcome}
+use Rattle.numerical.specs.Tallies.{fresh}
+use Rattle.numerical.specs.declared.Answer.{Answer}
 use Rattle.numerical.specs.declared.Interval.{Interval}
+use Rattle.numerical.specs.declared.Outcome.{Outcome}
+use Rattle.numerical.specs.declared.Progress.{Progress}
 use Rattle.numerical.specs.declared.Sample.{Sample}
 use Rattle.simple_convergency.specs.Stop.{turnsOf}
 use Rattle.simple_convergency.specs.declared.StopRule.{StopRule}
-use Rattle.searching.specs.Programs.{oracle}
+use Rattle.searching.specs.Programs.{rising, oracle, play, tallied}
 use Rattle.searching.specs.Histories.{history}
 use Rattle.searching.specs.ProgramLaws.{tallies-are-counts, counted}
 use Rattle.searching.specs.Bounds.{Within, More, within-done, within-test, within-stops, within-ruled, within-pulled, within-value, within-both, within-offered, within-bracketed, within-narrows, within-less, within-searches, answer-within}
-use Rattle.searching.specs.LoopLaws.{Method, Shown, shown-end, shown-go, viewed-once}
-use Rattle.numerical.specs.Tallies.{fresh}
-use Rattle.polynom_search.specs.PolynomSearch.{secondAt, firstAt, ordered, opening, chosen, closer, atMiddle, stepAt, widthAt, pulledIn, atMiddleOf, turnFrom, polynomProgram, polynomSearch, viewed}
-use Rattle.polynom_search.specs.declared.Turn.{Turn}
-use Rattle.polynom_search.specs.declared.Turn.the-variants.{Ended, Next}
+use Rattle.searching.specs.LoopLaws.{Turns, runOf, opened-ended, opened-next, Shown, shown-end, shown-go, seen-once}
+use Rattle.polynom_search.specs.PolynomSearch.{secondAt, firstAt, ordered, opening, chosen, closer, atMiddle, stepAt, widthAt, pulledIn, atMiddleOf, turnFrom, polynomProgram, polynomSearch, seen}
+use Rattle.polynom_search.specs.declared.To.{To}
+use Rattle.polynom_search.specs.declared.To.the-variants.{Ended, Next}
 
 pub within-opening : (stop : StopRule) (a b : Float) → Within 2 0 0 (opening stop a b)
-unfolding opening ordered firstAt secondAt
+unfolding opening rising ordered firstAt secondAt
 within-opening stop a b = within-test _ (both b a) (both a b)
   where
     both : (x y : Float) → Within 2 0 0 (ordered stop x y)
@@ -44,21 +48,31 @@ within-turn stop i =
     (within-offered _ (λ x. within-pulled _ _ x (λ y. within-done)))
     (within-offered _ (λ x. within-pulled _ _ x (within-step i)))))
 
--- the method, for the laws of loops
-abbrev pub method : StopRule → Float → Float → Method Interval Turn
-method stop a b =
+-- the turns, for the laws of loops
+abbrev pub turns : StopRule → Turns Interval To
+turns stop =
     record {
-      opening = opening stop a b;
-      turns = λ r. turnsOf stop;
       turn = turnFrom stop;
-      view = viewed;
+      seen = seen;
       end = Ended;
       go = Next;
-      view-end = λ o. refl;
-      view-go = λ i p. refl;
-      opening-small = within-less (within-opening stop a b) (omega arith) (omega arith) (omega arith);
-      turn-small = λ i. within-less (within-turn stop i) (omega arith) (omega arith) (omega arith);
+      seen-end = λ a. refl;
+      seen-go = λ i. refl;
+      small = λ i. within-less (within-turn stop i) (omega arith) (omega arith) (omega arith);
     }
+
+pub small-opening : (stop : StopRule) (a b : Float) → Within 3 3 3 (opening stop a b)
+small-opening stop a b = within-less (within-opening stop a b) (omega arith) (omega arith) (omega arith)
+
+-- from what the opening came to: the search has ended, or the turns are the rest
+module _ (cs : List Float) (stop : StopRule) (a b : Float) {t : To} {p q : Progress} (f : q ≡ fresh) (e : (seen t, p) ≡ play tallied (oracle cs) (opening stop a b) q) where
+  pub from-end : {answer : Answer} → t ≡ Ended answer → outcome (answer, p) ≡ polynomSearch cs stop a b
+  unfolding polynomSearch polynomProgram
+  from-end = opened-ended (turns stop) _ _ cs f e
+
+  pub from-state : {i : Interval} {n : ℕ} {r : Outcome} → t ≡ Next i → n ≡ turnsOf stop → r ≡ runOf cs (turnFrom stop) n i p → r ≡ polynomSearch cs stop a b
+  unfolding polynomSearch polynomProgram
+  from-state = opened-next (turns stop) _ _ cs f e
 
 module _ (cs : List Float) (stop : StopRule) (a b : Float) where
   -- the tallies and the mark reported are those of the history
@@ -78,11 +92,10 @@ module _ (cs : List Float) (stop : StopRule) (a b : Float) where
   pub polynom-search-derivatives : polynomSearch cs stop a b .progress .tally .derivatives .0 ≤ turnsOf stop
   polynom-search-derivatives = let h = polynom-search-more .derivatives in omega arith
 
--- a turn is what its view says: the contracts by views determine their results
-module _ (stop : StopRule) (a b : Float) where
-  shown : (t : Turn) → Shown (method stop a b) t
-  shown (Ended o) = shown-end o refl
-  shown (Next i p) = shown-go i p refl
+-- where a turn leads is what it stands for: the contracts by views determine their results
+shown : (stop : StopRule) (t : To) → Shown (turns stop) t
+shown stop (Ended a) = shown-end a refl
+shown stop (Next i) = shown-go i refl
 
-  pub turn-once : (x y : Turn) → viewed x ≡ viewed y → x ≡ y
-  turn-once = viewed-once (method stop a b) shown
+pub turn-once : (stop : StopRule) (x y : To) → seen x ≡ seen y → x ≡ y
+turn-once stop = seen-once (turns stop) (shown stop)

@@ -12,22 +12,40 @@ ghost use mathlib.Core.Path.{_≡_};
 ghost use mathlib.Core.List.{List};
 ghost use Prim.Native.Nat.{_≤_};
 ghost use lib.Ieee.{Float};
-ghost use Rattle.numerical.specs.Tallies.{fresh, Room};
+ghost use Rattle.numerical.specs.Tallies.{Room};
 ghost use Rattle.numerical.specs.declared.Answer.the-variants.{ByValue};
 ghost use Rattle.simple_convergency.specs.declared.StopRule.{StopRule};
-ghost use Rattle.searching.specs.Programs.{ended, oracle, play, tallied};
-ghost use Rattle.polynom_search.specs.PolynomSearch.{secondAt, firstAt, ordered, opening, replacedOf, chosen, closer, newtonPoint, inPair, usable, atMiddle, stepAt, turnFrom, polynomSearch, viewed};
+ghost use Rattle.searching.specs.Programs.{ended, next, oracle, play, tallied};
+ghost use Rattle.searching.specs.LoopLaws.{runOf};
+ghost use Rattle.polynom_search.specs.PolynomSearch.{secondAt, firstAt, ordered, opening, chosen, closer, newtonPoint, inPair, atMiddle, stepAt, turnFrom, polynomSearch, viewed};
 ghost use Rattle.polynom_search.specs.Narrowing.{convergedOr, narrowing};
 
-pub enum Turn {
-    Ended(Outcome),
-    Next(Interval, Progress),
+// Where a turn leads: to the search's end, or to the next pair.
+pub enum To {
+    Ended(Answer),
+    Next(Interval),
 }
 
+// A turn of the search, with what the run has done after it.
+pub struct Turn {
+    pub to: To,
+    pub progress: Progress,
+}
+
+// The search ends here.
 fn ended(answer: Answer, progress: Progress) -> Turn
     ensures { λ r. ⌜ viewed r ≡ (ended answer, progress) ⌝ }
 {
-    Turn::Ended(Outcome { answer, progress })
+    let to = To::Ended(answer);
+    Turn { to, progress }
+}
+
+// The search goes on from this pair.
+fn goes_on(state: Interval, progress: Progress) -> Turn
+    ensures { λ r. ⌜ viewed r ≡ (next state, progress) ⌝ }
+{
+    let to = To::Next(state);
+    Turn { to, progress }
 }
 
 // ---- the opening
@@ -36,11 +54,11 @@ fn ended(answer: Answer, progress: Progress) -> Turn
 fn second_at(p: Sample, q: Sample, progress: Progress) -> Turn
     ensures { λ r. ⌜ ((cs : List Float) (stop : StopRule) → viewed r ≡ play tallied (oracle cs) (secondAt stop p q) progress) ⌝ }
 {
-    let marked = progress.ruled(1, searching::product_departs(p, q));
-    if doubles::same_sign(p.y, q.y) {
-        ended(Answer::Refused(6), marked)
+    let decided = searching::alike(p, q, progress);
+    if decided.holds {
+        ended(Answer::Refused(6), decided.progress)
     } else {
-        Turn::Next(Interval { begin: p, end: q }, marked)
+        goes_on(Interval { begin: p, end: q }, decided.progress)
     }
 }
 
@@ -70,41 +88,30 @@ fn ordered(a: &[f64], begin: f64, end: f64, progress: Progress) -> Turn
     first_at(a, end, p, counted)
 }
 
-// The smaller start comes first, and equal ones keep their order.
-fn opened(a: &[f64], from: f64, to: f64) -> Turn
-    ensures { λ r. ⌜ ((stop : StopRule) → viewed r ≡ play tallied (oracle (now (a .entry))) (opening stop from to) fresh) ⌝ }
+// The starts are ordered, and both are evaluated.
+fn opened(a: &[f64], from: f64, to: f64, progress: Progress) -> Turn
+    requires { ⌜ Room 2 progress ⌝ }
+    ensures { λ r. ⌜ ((stop : StopRule) → viewed r ≡ play tallied (oracle (now (a .entry))) (opening stop from to) progress) ⌝ }
 {
-    let none = Progress::fresh();
-    if to < from {
-        ordered(a, to, from, none)
-    } else {
-        ordered(a, from, to, none)
-    }
+    let starts = searching::in_order(from, to);
+    ordered(a, starts.first, starts.second, progress)
 }
 
 // ---- a step
 
-// The sample replaces begin where it shares its sign, and end otherwise.
-fn replaced(i: Interval, p: Sample) -> Interval
-    ensures { λ r. ⌜ r ≡ replacedOf i p ⌝ }
-{
-    let begin = i.begin;
-    let end = i.end;
-    if doubles::same_sign(begin.y, p.y) {
-        Interval { begin: p, end }
-    } else {
-        Interval { begin, end: p }
-    }
-}
-
-// The step ends with the pair that the sample narrows.
+// The step ends with the pair that the sample narrows: it replaces begin where it shares its sign, and end otherwise.
 fn chosen(i: Interval, p: Sample, progress: Progress) -> Turn
     requires { ⌜ Room 1 progress ⌝ }
     ensures { λ r. ⌜ ((cs : List Float) → viewed r ≡ play tallied (oracle cs) (chosen i p) progress) ⌝ }
 {
     let begin = i.begin;
-    let marked = progress.ruled(1, searching::product_departs(begin, p));
-    Turn::Next(replaced(i, p), marked.stepped())
+    let end = i.end;
+    let decided = searching::alike(begin, p, progress);
+    if decided.holds {
+        goes_on(Interval { begin: p, end }, decided.progress.stepped())
+    } else {
+        goes_on(Interval { begin, end: p }, decided.progress.stepped())
+    }
 }
 
 // Newton's sample is taken only if its value is strictly smaller in size.
@@ -133,33 +140,24 @@ fn in_pair(i: Interval, x: f64) -> bool
     if i.begin.x <= x { x <= i.end.x } else { false }
 }
 
-// Whether the derivative is nonzero and Newton's point lies in the pair.
-fn is_usable(i: Interval, v: ValueAndDerivative) -> bool
-    ensures { λ r. ⌜ r ≡ usable i v ⌝ }
-{
-    if v.derivative != 0.0 {
-        in_pair(i, newton_point(v))
-    } else {
-        false
-    }
-}
-
-// From the sample at `middle`: Newton's point is tried where it can be, and one of the two is chosen.
+// From the sample at `middle`: Newton's point is tried where the derivative is nonzero and the point lies in the pair, and one of the two is chosen.
 fn at_middle(a: &[f64], i: Interval, v: ValueAndDerivative, progress: Progress) -> Turn
     requires { ⌜ Room 2 progress ⌝ }
     ensures { λ r. ⌜ viewed r ≡ play tallied (oracle (now (a .entry))) (atMiddle i v) progress ⌝ }
 {
     let middle = v.value;
-    if is_usable(i, v) {
-        let counted = progress.valued();
-        let e = polynom::evaluate(a, newton_point(v));
-        let Evaluated::At(q) = e else {
-            return ended(Answer::Refused(9), counted);
-        };
-        closer(i, middle, q, counted)
-    } else {
-        chosen(i, middle, progress)
+    if v.derivative != 0.0 {
+        let x = newton_point(v);
+        if in_pair(i, x) {
+            let counted = progress.valued();
+            let e = polynom::evaluate(a, x);
+            let Evaluated::At(p) = e else {
+                return ended(Answer::Refused(9), counted);
+            };
+            return closer(i, middle, p, counted);
+        }
     }
+    chosen(i, middle, progress)
 }
 
 // The value and the derivative at x, and what follows from them.
@@ -202,8 +200,8 @@ fn narrow(a: &[f64], stop: StopRule, i: Interval, progress: Progress) -> Turn
     if doubles::is_finite(x) {
         let u = i.begin.x;
         let v = i.end.x;
-        let marked = progress.ruled(2, doubles::is_outside(u, v, x));
-        converged_or(a, stop, i, doubles::pulled(u, v, x), marked)
+        let placed = searching::pull(u, v, x, progress);
+        converged_or(a, stop, i, placed.x, placed.progress)
     } else {
         ended(Answer::Refused(9), progress)
     }
@@ -240,28 +238,43 @@ fn take_turn(a: &[f64], stop: StopRule, i: Interval, progress: Progress) -> Turn
 
 // ---- the search
 
-// The opening, and then at most as many rounds as the stop rule allows.
+// From a pair on: a round at a time, until an end or the limit.
+fn searched(a: &[f64], stop: StopRule, begun: Interval, progress: Progress, most: u64) -> Outcome
+    requires { ⌜ (most ≤ 400) × Room 2000 progress ⌝ }
+    ensures { λ r. ⌜ r ≡ runOf (now (a .entry)) (turnFrom stop) most begun progress ⌝ }
+{
+    let mut i = begun;
+    let mut p = progress;
+    let mut n: u64 = 0;
+    while n < most {
+        let turn = take_turn(a, stop, i, p);
+        let to = turn.to;
+        p = turn.progress;
+        match to {
+            To::Ended(answer) => return Outcome {
+                answer,
+                progress: p,
+            },
+            To::Next(next) => i = next,
+        }
+        n += 1;
+    }
+    Outcome {
+        answer: Answer::Refused(8),
+        progress: p,
+    }
+}
+
+// A root by the polynomial search from two starts: the opening, and the rounds from there.
 pub fn find_root(a: &[f64], stop: StopRule, from: f64, to: f64) -> Outcome
     requires { ⌜ stop .limit ≤ 400 ⌝ }
     ensures { λ r. ⌜ r ≡ polynomSearch (now (a .entry)) stop from to ⌝ }
 {
-    let most = stop.turns();
-    let mut turn = opened(a, from, to);
-    let mut n: u64 = 0;
-    while n < most {
-        match turn {
-            Turn::Ended(outcome) => return outcome,
-            Turn::Next(i, p) => {
-                turn = take_turn(a, stop, i, p);
-            }
-        }
-        n += 1;
-    }
-    match turn {
-        Turn::Ended(outcome) => outcome,
-        Turn::Next(_, p) => Outcome {
-            answer: Answer::Refused(8),
-            progress: p,
-        },
+    let turn = opened(a, from, to, Progress::fresh());
+    let leads = turn.to;
+    let progress = turn.progress;
+    match leads {
+        To::Ended(answer) => Outcome { answer, progress },
+        To::Next(begun) => searched(a, stop, begun, progress, stop.turns()),
     }
 }

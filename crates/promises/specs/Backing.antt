@@ -1,5 +1,5 @@
 -- What the promises rest on: lemmas that only their proofs read.
-use Prim.Native.Nat.{ℕ, zero, suc, _≤_, _<_}
+use Prim.Native.Nat.{ℕ, zero, suc, _≤_}
 use native.Mathlib.Omega.{arith}
 use mathlib.Core.Bool.{Bool, true, false, cond, true≢false}
 use mathlib.Core.Logic.{_↔_, _⊎_, inl, inr}
@@ -9,10 +9,9 @@ use lib.Dec.{T, ltb}
 use lib.ListN.{length}
 use lib.Ieee.{Float, binary64, fits, lt, sub}
 use lib.Ieee.Scale.{finite}
-use borrow.Author.Tests.{ltb-false}
 use Rattle.doubles.specs.Doubles.{above, absolute, sameSign, orderOf}
 use Rattle.doubles.specs.Number.{Double}
-use Rattle.doubles.specs.Pairs.{Inside, BetweenZ, inside-order, end-in, one-end, second-kept}
+use Rattle.doubles.specs.Pairs.{Inside, BetweenZ, inside-order}
 use Rattle.numerical.specs.Answers.{refusedAtOnce}
 use Rattle.numerical.specs.declared.Answer.{Answer}
 use Rattle.numerical.specs.declared.Answer.the-variants.{ByValue, ByWidth, Refused}
@@ -27,7 +26,7 @@ use Rattle.searching.specs.Histories.{listed, history, valuesIn, derivativesIn,
 use Rattle.searching.specs.ProgramLaws.{play-counted, counted, tallies-are-counts}
 use Rattle.polynom.specs.Polynom.{value, evaluated, evaluatedBoth}
 use Rattle.numerical.specs.declared.Interval.{Interval}
-use Rattle.searching.specs.BracketLaws.{double-num, newest-backed, newest-in}
+use Rattle.searching.specs.BracketLaws.{ends-fit, newest-backed, newest-in}
 use Rattle.searching.specs.Brackets.{pairsIn, Backed, Narrows, no-pair, first-pair, next-pair, Told, Bracket}
 use Rattle.searching.specs.Reasons.{Reason, by-value, by-width, by-middle, of-signs, of-flatness, of-limit, of-value, of-derivative, of-candidate, of-middle}
 use Rattle.searching.specs.Keeps.{Ends}
@@ -201,11 +200,7 @@ module _ {a : List Float} {u v : Float} (du : Double u) (dv : Double v) where
   pair-between x y i dx dy b p q = (inside-order x y (i .begin .x) dx dy (b .begin-double) .0 p, inside-order x y (i .end .x) dx dy (b .end-double) .0 q)
 
   first-between : (i : Interval) → Backed a i → Narrows a u v (i ∷ []) → PairBetween u v i
-  first-between i b n =
-      let x = double-num (b .begin-double) in
-      let y = double-num (b .end-double) in
-      let k = one-end (i .begin .x) (i .end .x) (i .begin .x) (i .end .x) x y (second-kept (end-in (i .begin .x) (i .end .x) x y)) in
-      pair-between u v i du dv b (newest-in (i .begin .x) n (k .one-in)) (newest-in (i .end .x) n (k .other-in))
+  first-between i b n = let k = ends-fit b in pair-between u v i du dv b (newest-in (i .begin .x) n (k .0 .is-inside)) (newest-in (i .end .x) n (k .1 .is-inside))
 
   by-order : {l : List Interval} → Narrows a u v l → NestedByOrder u v l
   by-order no-pair = tt

@@ -15,7 +15,7 @@ use Rattle.numerical.specs.declared.Outcome.{Outcome}
 use Rattle.numerical.specs.declared.Progress.{Progress}
 use Rattle.simple_convergency.specs.Stop.{badEps, checkedOf, foundAt, convergedAt}
 use Rattle.polynom.specs.Polynom.{sums, value, sumsBoth, valueAndDerivative, evaluated, evaluatedBoth}
-use Rattle.searching.specs.Programs.{bind, test, stops, sampled, sampledBoth, valueAt, bothAt, offered, pulledInto, productDeparts, bracketed, stepsTo, narrowsTo, run, searches, play, answerOf}
+use Rattle.searching.specs.Programs.{rising, bind, test, stops, sampled, sampledBoth, valueAt, bothAt, offered, pulledInto, productDeparts, bracketed, stepsTo, narrowsTo, run, searches, play, answerOf}
 use Rattle.brent.specs.Brent as br
 use Rattle.regula_falsi.specs.RegulaFalsi as rf
 use Rattle.secant.specs.Secant as sec
@@ -143,7 +143,7 @@ cases =
 
 -- every call of the list gets exactly the answer of the table
 pub cases-hold : allHold cases ≡ true
-unfolding allHold cases holds agrees doubles sameBits answer badCount allFinite checkedOf badEps foundAt convergedAt absolute sameSign oppositeSign outside pulled atLeast atMost crosses middleOf markAfter sums value sumsBoth valueAndDerivative evaluated evaluatedBoth bind test stops sampled sampledBoth valueAt bothAt offered pulledInto productDeparts bracketed stepsTo narrowsTo run searches play answerOf br.arrange br.startOf br.opened br.secondAt br.firstAt br.opening br.inverseQuadratic br.chord br.threeValues br.guessOf br.beyondQuarter br.tooSlow br.stalls br.bisects br.usedOf br.nextOf br.keptA br.keptB br.stepDeparts br.arrived br.landed br.pulledIn br.stepWith br.stepFrom br.turnFrom br.brentProgram br.brent rf.secondAt rf.firstAt rf.ordered rf.opening rf.candidateOf rf.replacedOf rf.departs rf.arrived rf.landed rf.pulledIn rf.turnFrom rf.illinoisProgram rf.regulaFalsi sec.secondAt sec.firstAt sec.opening sec.candidateOf sec.arrived sec.landed sec.turnFrom sec.secantProgram sec.secant nr.newtonPoint nr.landed nr.onward nr.laterAt nr.turnFrom nr.nudgedTo nr.nudge nr.firstAt nr.opening nr.newtonProgram nr.newtonRaphson ps.secondAt ps.firstAt ps.ordered ps.opening ps.replacedOf ps.chosen ps.closer ps.newtonPoint ps.inPair ps.usable ps.atMiddle ps.stepAt ps.widthAt ps.pulledIn ps.atMiddleOf ps.turnFrom ps.polynomProgram ps.polynomSearch lt le eq ne neg sub add mul div ofBits toBits
+unfolding allHold cases holds agrees doubles sameBits answer badCount allFinite checkedOf badEps foundAt convergedAt absolute sameSign oppositeSign outside pulled atLeast atMost crosses middleOf markAfter sums value sumsBoth valueAndDerivative evaluated evaluatedBoth bind test stops sampled sampledBoth valueAt bothAt offered pulledInto rising productDeparts bracketed stepsTo narrowsTo run searches play answerOf br.arrange br.startOf br.opened br.secondAt br.firstAt br.opening br.inverseQuadratic br.chord br.threeValues br.guessOf br.beyondQuarter br.tooSlow br.stalls br.bisects br.usedOf br.nextOf br.keptA br.keptB br.stepDeparts br.arrived br.landed br.pulledIn br.stepWith br.stepFrom br.turnFrom br.brentProgram br.brent rf.secondAt rf.firstAt rf.ordered rf.opening rf.candidateOf rf.replacedOf rf.departs rf.arrived rf.landed rf.pulledIn rf.turnFrom rf.illinoisProgram rf.regulaFalsi sec.secondAt sec.firstAt sec.opening sec.candidateOf sec.arrived sec.landed sec.turnFrom sec.secantProgram sec.secant nr.newtonPoint nr.landed nr.onward nr.laterAt nr.turnFrom nr.nudgedTo nr.nudge nr.firstAt nr.opening nr.newtonProgram nr.newtonRaphson ps.secondAt ps.firstAt ps.ordered ps.opening ps.replacedOf ps.chosen ps.closer ps.newtonPoint ps.inPair ps.usable ps.atMiddle ps.stepAt ps.widthAt ps.pulledIn ps.atMiddleOf ps.turnFrom ps.polynomProgram ps.polynomSearch lt le eq ne neg sub add mul div ofBits toBits
 cases-hold = refl
 
 -- ---- "Limits: 16 coefficients pass, 17 get 1; eps 2^-300 passes, its half gets 4; limit 400 passes, 401 gets 5"
@@ -175,5 +175,5 @@ limits =
 
 -- and so does every call of this list
 pub limits-hold : allHold limits ≡ true
-unfolding allHold limits holds agrees doubles sameBits answer badCount allFinite checkedOf badEps foundAt convergedAt absolute sameSign oppositeSign outside pulled atLeast atMost crosses middleOf markAfter sums value sumsBoth valueAndDerivative evaluated evaluatedBoth bind test stops sampled sampledBoth valueAt bothAt offered pulledInto productDeparts bracketed stepsTo narrowsTo run searches play answerOf br.arrange br.startOf br.opened br.secondAt br.firstAt br.opening br.inverseQuadratic br.chord br.threeValues br.guessOf br.beyondQuarter br.tooSlow br.stalls br.bisects br.usedOf br.nextOf br.keptA br.keptB br.stepDeparts br.arrived br.landed br.pulledIn br.stepWith br.stepFrom br.turnFrom br.brentProgram br.brent rf.secondAt rf.firstAt rf.ordered rf.opening rf.candidateOf rf.replacedOf rf.departs rf.arrived rf.landed rf.pulledIn rf.turnFrom rf.illinoisProgram rf.regulaFalsi sec.secondAt sec.firstAt sec.opening sec.candidateOf sec.arrived sec.landed sec.turnFrom sec.secantProgram sec.secant nr.newtonPoint nr.landed nr.onward nr.laterAt nr.turnFrom nr.nudgedTo nr.nudge nr.firstAt nr.opening nr.newtonProgram nr.newtonRaphson ps.secondAt ps.firstAt ps.ordered ps.opening ps.replacedOf ps.chosen ps.closer ps.newtonPoint ps.inPair ps.usable ps.atMiddle ps.stepAt ps.widthAt ps.pulledIn ps.atMiddleOf ps.turnFrom ps.polynomProgram ps.polynomSearch lt le eq ne neg sub add mul div ofBits toBits
+unfolding allHold limits holds agrees doubles sameBits answer badCount allFinite checkedOf badEps foundAt convergedAt absolute sameSign oppositeSign outside pulled atLeast atMost crosses middleOf markAfter sums value sumsBoth valueAndDerivative evaluated evaluatedBoth bind test stops sampled sampledBoth valueAt bothAt offered pulledInto rising productDeparts bracketed stepsTo narrowsTo run searches play answerOf br.arrange br.startOf br.opened br.secondAt br.firstAt br.opening br.inverseQuadratic br.chord br.threeValues br.guessOf br.beyondQuarter br.tooSlow br.stalls br.bisects br.usedOf br.nextOf br.keptA br.keptB br.stepDeparts br.arrived br.landed br.pulledIn br.stepWith br.stepFrom br.turnFrom br.brentProgram br.brent rf.secondAt rf.firstAt rf.ordered rf.opening rf.candidateOf rf.replacedOf rf.departs rf.arrived rf.landed rf.pulledIn rf.turnFrom rf.illinoisProgram rf.regulaFalsi sec.secondAt sec.firstAt sec.opening sec.candidateOf sec.arrived sec.landed sec.turnFrom sec.secantProgram sec.secant nr.newtonPoint nr.landed nr.onward nr.laterAt nr.turnFrom nr.nudgedTo nr.nudge nr.firstAt nr.opening nr.newtonProgram nr.newtonRaphson ps.secondAt ps.firstAt ps.ordered ps.opening ps.replacedOf ps.chosen ps.closer ps.newtonPoint ps.inPair ps.usable ps.atMiddle ps.stepAt ps.widthAt ps.pulledIn ps.atMiddleOf ps.turnFrom ps.polynomProgram ps.polynomSearch lt le eq ne neg sub add mul div ofBits toBits
 limits-hold = refl

@@ -21,7 +21,7 @@ use Rattle.polynom.specs.Polynom.{value, valueAndDerivative, evaluated, evaluat
 use Rattle.polynom.specs.declared.ValueAndDerivative.{ValueAndDerivative}
 use Rattle.polynom.specs.declared.Evaluated.{Evaluated}
 use Rattle.polynom.specs.declared.EvaluatedBoth.{EvaluatedBoth}
-use Rattle.searching.specs.Programs.{productDeparts}
+use Rattle.searching.specs.Rules.{placedIn, alikeBy, inOrder}
 use Rattle.brent.specs.Brent.{brent}
 use Rattle.regula_falsi.specs.RegulaFalsi.{regulaFalsi}
 use Rattle.secant.specs.Secant.{secant}
@@ -92,8 +92,14 @@ polynom-search-once a stop from to = fixed _
 
 -- ---- searching and polynom
 
-pub product-departs-once : (p q : Sample) → Fixed (productDeparts p q)
-product-departs-once p q = fixed _
+pub pull-once : (u v x : Float) (p : Progress) → Fixed (placedIn u v x p)
+pull-once u v x p = fixed _
+
+pub in-order-once : (a b : Float) → Fixed (inOrder a b)
+in-order-once a b = fixed _
+
+pub alike-once : (p q : Sample) (r : Progress) → Fixed (alikeBy p q r)
+alike-once p q r = fixed _
 
 pub value-once : (a : List Float) (x : Float) → Fixed (value a x)
 value-once a x = fixed _

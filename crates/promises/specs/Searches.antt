@@ -1,6 +1,6 @@
 -- The words of the promises: a call's program and history, which calls 1 to 5 refuse, and the bounds. Definitions only.
 use Prim.Native.Nat.{ℕ, _+_, _*_, max}
-use mathlib.Core.Bool.{Bool, true, false, cond}
+use mathlib.Core.Bool.{cond}
 use mathlib.Core.List.{List, [], _∷_}
 use mathlib.Core.Path.{_≡_}
 use lib.Dec.{T, ltb}

@@ -1,6 +1,6 @@
 -- The Illinois form of regula falsi, step by step as regula_falsi.rs has it. Definitions only.
 use mathlib.Core.Bool.{Bool, true, false, not, cond}
-use lib.Ieee.{Float, binary64, sub, mul, div, lt}
+use lib.Ieee.{Float, binary64, sub, mul, div}
 use mathlib.Core.List.{List}
 use Rattle.numerical.specs.declared.Answer.{Answer}
 use Rattle.numerical.specs.declared.Answer.the-variants.{ByWidth}
@@ -12,13 +12,14 @@ use Rattle.simple_convergency.specs.Stop.{turnsOf}
 use Rattle.simple_convergency.specs.declared.StopRule.{StopRule}
 use Rattle.doubles.specs.Doubles.{above, sameSign}
 use Rattle.numerical.specs.Middle.{two}
-use Rattle.searching.specs.Programs.{found, converged, ruled, Prog, log, Turned, ended, next, test, stops, answers, byValue, valueAt, offered, pulledInto, bracketed, narrowsTo, searches, answerOf}
+use Rattle.searching.specs.Programs.{rising, found, converged, ruled, Prog, log, Turned, ended, next, stops, answers, byValue, valueAt, offered, pulledInto, bracketed, narrowsTo, searches, answerOf}
 use Rattle.regula_falsi.specs.declared.End.{End}
 use Rattle.regula_falsi.specs.declared.Edge.{Edge}
 use Rattle.regula_falsi.specs.declared.Edge.the-variants.{EdgeX1, NoEdge, EdgeX2}
 use Rattle.regula_falsi.specs.declared.Illinois.{Illinois}
+use Rattle.regula_falsi.specs.declared.To.{To}
+use Rattle.regula_falsi.specs.declared.To.the-variants.{Ended, Next}
 use Rattle.regula_falsi.specs.declared.Turn.{Turn}
-use Rattle.regula_falsi.specs.declared.Turn.the-variants.{Ended, Next}
 
 -- an end with its full weight, and with half of it
 abbrev pub whole : Sample → End
@@ -49,7 +50,7 @@ ordered stop x1 x2 = valueAt x1 (firstAt stop x2)
 
 -- "Starts are ordered, smaller first; equal ones keep their order"
 unfoldable pub opening : StopRule → Float → Float → Prog (Turned Illinois)
-opening stop a b = test (lt b a) (ordered stop b a) (ordered stop a b)
+opening stop a b = rising a b (ordered stop)
 
 -- ---- a step
 
@@ -71,12 +72,15 @@ leftAfter EdgeX1 e = e
 leftAfter NoEdge e = e
 leftAfter EdgeX2 e = halved e
 
+abbrev pub leftReplaced : Illinois → Sample → Illinois
+leftReplaced s p = record { left = whole p; right = rightAfter (s .edge) (s .right); edge = EdgeX1 }
+
+abbrev pub rightReplaced : Illinois → Sample → Illinois
+rightReplaced s p = record { left = leftAfter (s .edge) (s .left); right = whole p; edge = EdgeX2 }
+
 -- "x replaces the end whose sign it shares"
 unfoldable pub replacedOf : Illinois → Sample → Illinois
-replacedOf s p =
-    cond (sameSign (p .y) (s .left .at .y))
-    (record { left = whole p; right = rightAfter (s .edge) (s .right); edge = EdgeX1 })
-    (record { left = leftAfter (s .edge) (s .left); right = whole p; edge = EdgeX2 })
+replacedOf s p = cond (sameSign (p .y) (s .left .at .y)) (leftReplaced s p) (rightReplaced s p)
 
 -- whether the Rust, which tests the products with the weights in turn and has a last branch, would go elsewhere
 abbrev pub elsewhere : Bool → Bool → Bool → Bool
@@ -84,11 +88,14 @@ elsewhere true first second = not first
 elsewhere false true second = true
 elsewhere false false second = not second
 
-unfoldable pub departs : Illinois → Sample → Bool
-departs s p =
-    elsewhere (sameSign (p .y) (s .left .at .y))
+abbrev pub departsFrom : Bool → Illinois → Sample → Bool
+departsFrom same s p =
+    elsewhere same
     (above (mul binary64 (p .y) (s .left .weight)))
     (above (mul binary64 (p .y) (s .right .weight)))
+
+unfoldable pub departs : Illinois → Sample → Bool
+departs s p = departsFrom (sameSign (p .y) (s .left .at .y)) s p
 
 -- "Then it evaluates x, tests found"
 unfoldable pub arrived : StopRule → Illinois → Sample → Prog (Turned Illinois)
@@ -121,6 +128,9 @@ regulaFalsi cs stop a b = answerOf cs (illinoisProgram stop a b)
 
 -- ---- what a turn of the code stands for
 
+abbrev pub seen : To → Turned Illinois
+seen (Ended a) = ended a
+seen (Next s) = next s
+
 abbrev pub viewed : Turn → Turned Illinois × Progress
-viewed (Ended o) = (ended (o .answer), o .progress)
-viewed (Next s p) = (next s, p)
+viewed t = (seen (t .to), t .progress)

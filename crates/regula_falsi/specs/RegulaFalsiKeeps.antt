@@ -12,15 +12,14 @@ use Rattle.doubles.specs.Doubles.{sameSign}
 use Rattle.doubles.specs.Number.{Double}
 use Rattle.doubles.specs.Pairs.{In, Inside}
 use Rattle.doubles.specs.Signs.{same-symmetric, shared-replaced}
-use Rattle.numerical.specs.declared.Answer.{Answer}
 use Rattle.numerical.specs.declared.Sample.{Sample}
 use Rattle.simple_convergency.specs.Stop.{turnsOf}
 use Rattle.simple_convergency.specs.declared.StopRule.{StopRule}
-use Rattle.searching.specs.Programs.{oracle, Event, Prog, Turned}
+use Rattle.searching.specs.Programs.{rising, oracle, Event, Prog, Turned}
 use Rattle.searching.specs.Histories.{stepsIn}
-use Rattle.searching.specs.Reasons.{someEnds, True, by-value, by-width}
+use Rattle.searching.specs.Reasons.{someEnds, by-value, by-width}
 use Rattle.searching.specs.ReasonLaws.{Answered}
-use Rattle.searching.specs.Brackets.{pairsIn, pointsOf, Backed, Fit, AtStarts, Bracket, Unpaired, Bracketing}
+use Rattle.searching.specs.Brackets.{pairsIn, pointsOf, Fit, AtStarts, Bracket, Unpaired, Bracketing}
 use Rattle.searching.specs.BracketLaws.{double-finite, between, answered-fit, ends-fit, unpaired-none, unpaired-going, unpaired-on, unpaired-narrows, unpaired-value, bracketed-ends, bracket-backed, bracket-in, bracket-narrows, bracket-on, bracket-pulled, bracket-going, bracket-next, bracket-found, bracket-value, bracket-no-candidate, bracket-limit}
 use Rattle.searching.specs.Keeps.{Ends, After, ends-done, ends-log, ends-test, ends-stops, ends-offered, ends-pulled, ends-narrows, ends-searches}
 use Rattle.regula_falsi.specs.RegulaFalsi.{pairOf, secondAt, firstAt, ordered, opening, candidateOf, rightAfter, leftAfter, replacedOf, arrived, landed, pulledIn, turnFrom, illinoisProgram}
@@ -113,7 +112,7 @@ module _ (a : List Float) (stop : StopRule) (from to : Float) (from-double : Dou
     keeps-ordered = unpaired-value unpaired-none x1 (first-start .1) (λ p v i. keeps-first p _ v i)
 
   keeps-opening : Reaches (turnsOf stop) (opening stop from to) []
-  unfolding opening
+  unfolding opening rising
   keeps-opening = ends-test (lt to from) (λ e. keeps-ordered to from (inr (refl, refl))) (λ e. keeps-ordered from to (inl (refl, refl)))
 
   -- ---- a step

@@ -1,22 +1,29 @@
 -- What the laws of searches give for regula falsi: the loop's shape, the bounds, the counts, and that views determine turns.
-use Prim.Native.Nat.{_+_, _*_, _≤_}
+use Prim.Native.Nat.{ℕ, _+_, _*_, _≤_}
 use native.Mathlib.Omega.{arith}
 use native.Mathlib.Nat.{mul-one, mul-zero, le-refl}
+use mathlib.Core.Bool.{Bool, true, false}
 use mathlib.Core.List.{List}
-use mathlib.Core.Path.{_≡_, refl}
+use mathlib.Core.Path.{_≡_, refl, _∙_}
 use lib.Ieee.{Float, lt}
+use Rattle.doubles.specs.Doubles.{sameSign}
+use Rattle.numerical.specs.Answers.{outcome}
 use Rattle.numerical.specs.Tallies.{fresh}
+use Rattle.numerical.specs.declared.Answer.{Answer}
+use Rattle.numerical.specs.declared.Outcome.{Outcome}
+use Rattle.numerical.specs.declared.Progress.{Progress}
+use Rattle.numerical.specs.declared.Sample.{Sample}
 use Rattle.simple_convergency.specs.Stop.{turnsOf}
 use Rattle.simple_convergency.specs.declared.StopRule.{StopRule}
-use Rattle.searching.specs.Programs.{oracle}
+use Rattle.searching.specs.Programs.{ruled, log, Turned, test, narrowsTo, rising, oracle, play, tallied}
 use Rattle.searching.specs.Histories.{history}
 use Rattle.searching.specs.ProgramLaws.{tallies-are-counts, counted}
 use Rattle.searching.specs.Bounds.{Within, More, within-done, within-test, within-stops, within-ruled, within-pulled, within-value, within-offered, within-bracketed, within-narrows, within-less, within-searches, answer-within}
-use Rattle.searching.specs.LoopLaws.{Method, Shown, shown-end, shown-go, viewed-once}
-use Rattle.regula_falsi.specs.RegulaFalsi.{secondAt, firstAt, ordered, opening, pairOf, arrived, landed, pulledIn, turnFrom, illinoisProgram, regulaFalsi, viewed}
+use Rattle.searching.specs.LoopLaws.{Turns, runOf, opened-ended, opened-next, Shown, shown-end, shown-go, seen-once}
+use Rattle.regula_falsi.specs.RegulaFalsi.{secondAt, firstAt, ordered, opening, pairOf, leftReplaced, rightReplaced, replacedOf, departsFrom, departs, arrived, landed, pulledIn, turnFrom, illinoisProgram, regulaFalsi, seen}
 use Rattle.regula_falsi.specs.declared.Illinois.{Illinois}
-use Rattle.regula_falsi.specs.declared.Turn.{Turn}
-use Rattle.regula_falsi.specs.declared.Turn.the-variants.{Ended, Next}
+use Rattle.regula_falsi.specs.declared.To.{To}
+use Rattle.regula_falsi.specs.declared.To.the-variants.{Ended, Next}
 
 within-ordered : (stop : StopRule) (x1 x2 : Float) → Within 2 0 0 (ordered stop x1 x2)
 unfolding ordered firstAt secondAt
@@ -24,7 +31,7 @@ within-ordered stop x1 x2 =
     within-value x1 (λ p. within-stops stop _ within-done (within-value x2 (λ q. within-stops stop _ within-done (within-bracketed stop p q _))))
 
 pub within-opening : (stop : StopRule) (a b : Float) → Within 2 0 0 (opening stop a b)
-unfolding opening
+unfolding opening rising
 within-opening stop a b = within-test (lt b a) (within-ordered stop b a) (within-ordered stop a b)
 
 pub within-turn : (stop : StopRule) (s : Illinois) → Within 1 0 1 (turnFrom stop s)
@@ -35,21 +42,41 @@ within-turn stop s =
     (λ y. within-stops stop _ within-done
     (within-value y (λ p. within-stops stop _ within-done (within-ruled 1 _ (within-narrows pairOf _))))))
 
--- the method, for the laws of loops
-abbrev pub method : StopRule → Float → Float → Method Illinois Turn
-method stop a b =
+-- the turns, for the laws of loops
+abbrev pub turns : StopRule → Turns Illinois To
+turns stop =
     record {
-      opening = opening stop a b;
-      turns = λ r. turnsOf stop;
       turn = turnFrom stop;
-      view = viewed;
+      seen = seen;
       end = Ended;
       go = Next;
-      view-end = λ o. refl;
-      view-go = λ s p. refl;
-      opening-small = within-less (within-opening stop a b) (omega arith) (omega arith) (omega arith);
-      turn-small = λ s. within-less (within-turn stop s) (omega arith) (omega arith) (omega arith);
+      seen-end = λ a. refl;
+      seen-go = λ s. refl;
+      small = λ s. within-less (within-turn stop s) (omega arith) (omega arith) (omega arith);
     }
+
+pub small-opening : (stop : StopRule) (a b : Float) → Within 3 3 3 (opening stop a b)
+small-opening stop a b = within-less (within-opening stop a b) (omega arith) (omega arith) (omega arith)
+
+-- from what the opening came to: the search has ended, or the turns are the rest
+module _ (cs : List Float) (stop : StopRule) (a b : Float) {t : To} {p q : Progress} (f : q ≡ fresh) (e : (seen t, p) ≡ play tallied (oracle cs) (opening stop a b) q) where
+  pub from-end : {w : Answer} → t ≡ Ended w → outcome (w, p) ≡ regulaFalsi cs stop a b
+  unfolding regulaFalsi illinoisProgram
+  from-end = opened-ended (turns stop) _ _ cs f e
+
+  pub from-state : {s : Illinois} {n : ℕ} {r : Outcome} → t ≡ Next s → n ≡ turnsOf stop → r ≡ runOf cs (turnFrom stop) n s p → r ≡ regulaFalsi cs stop a b
+  unfolding regulaFalsi illinoisProgram
+  from-state = opened-next (turns stop) _ _ cs f e
+
+-- the sample shares the left end's sign or not: the step of that branch is the definition's
+module _ (cs : List Float) (q : Progress) {r : Turned Illinois × Progress} {f d : Bool} {i : Illinois} (s : Illinois) (p : Sample) (signs : f ≡ sameSign (p .y) (s .left .at .y)) (came : r ≡ play tallied (oracle cs) (log (ruled 1 d) (narrowsTo pairOf i)) q) where
+  pub by-left : f ≡ true → d ≡ departsFrom true s p → i ≡ leftReplaced s p → r ≡ play tallied (oracle cs) (log (ruled 1 (departs s p)) (narrowsTo pairOf (replacedOf s p))) q
+  unfolding departs replacedOf
+  by-left t e g = came ∙ rw (e, g, ← signs, t) refl
+
+  pub by-right : f ≡ false → d ≡ departsFrom false s p → i ≡ rightReplaced s p → r ≡ play tallied (oracle cs) (log (ruled 1 (departs s p)) (narrowsTo pairOf (replacedOf s p))) q
+  unfolding departs replacedOf
+  by-right t e g = came ∙ rw (e, g, ← signs, t) refl
 
 module _ (cs : List Float) (stop : StopRule) (a b : Float) where
   -- the tallies and the mark reported are those of the history
@@ -69,11 +96,10 @@ module _ (cs : List Float) (stop : StopRule) (a b : Float) where
   pub regula-falsi-derivatives : regulaFalsi cs stop a b .progress .tally .derivatives .0 ≤ 0
   regula-falsi-derivatives = let h = within-search .derivatives in omega (arith, mul-zero (turnsOf stop))
 
--- a turn is what its view says: the contracts by views determine their results
-module _ (stop : StopRule) (a b : Float) where
-  shown : (t : Turn) → Shown (method stop a b) t
-  shown (Ended o) = shown-end o refl
-  shown (Next s p) = shown-go s p refl
+-- where a turn leads is what it stands for: the contracts by views determine their results
+shown : (stop : StopRule) (t : To) → Shown (turns stop) t
+shown stop (Ended a) = shown-end a refl
+shown stop (Next s) = shown-go s refl
 
-  pub turn-once : (x y : Turn) → viewed x ≡ viewed y → x ≡ y
-  turn-once = viewed-once (method stop a b) shown
+pub turn-once : (stop : StopRule) (x y : To) → seen x ≡ seen y → x ≡ y
+turn-once stop = seen-once (turns stop) (shown stop)

@@ -9,10 +9,11 @@ ghost use mathlib.Core.Path.{_≡_};
 ghost use mathlib.Core.List.{List};
 ghost use Prim.Native.Nat.{_≤_};
 ghost use lib.Ieee.{Float};
-ghost use Rattle.numerical.specs.Tallies.{fresh, Room};
+ghost use Rattle.numerical.specs.Tallies.{Room};
 ghost use Rattle.numerical.specs.declared.Answer.the-variants.{ByValue};
-ghost use Rattle.searching.specs.Programs.{ended, oracle, play, tallied};
-ghost use Rattle.regula_falsi.specs.RegulaFalsi.{halved, secondAt, firstAt, ordered, opening, candidateOf, rightAfter, leftAfter, replacedOf, elsewhere, departs, arrived, landed, pulledIn, turnFrom, regulaFalsi, viewed};
+ghost use Rattle.searching.specs.Programs.{ended, next, log, narrowsTo, oracle, play, ruled, tallied};
+ghost use Rattle.searching.specs.LoopLaws.{runOf};
+ghost use Rattle.regula_falsi.specs.RegulaFalsi.{halved, pairOf, secondAt, firstAt, ordered, opening, candidateOf, rightAfter, leftAfter, leftReplaced, rightReplaced, elsewhere, departsFrom, arrived, landed, pulledIn, turnFrom, regulaFalsi, viewed};
 
 // An end of the pair: its sample, and the value that the chord is drawn with.
 pub struct End {
@@ -33,15 +34,32 @@ pub struct Illinois {
     pub edge: Edge,
 }
 
-pub enum Turn {
-    Ended(Outcome),
-    Next(Illinois, Progress),
+// Where a turn leads: to the search's end, or to the next state.
+pub enum To {
+    Ended(Answer),
+    Next(Illinois),
 }
 
+// A turn of the search, with what the run has done after it.
+pub struct Turn {
+    pub to: To,
+    pub progress: Progress,
+}
+
+// The search ends here.
 fn ended(answer: Answer, progress: Progress) -> Turn
     ensures { λ r. ⌜ viewed r ≡ (ended answer, progress) ⌝ }
 {
-    Turn::Ended(Outcome { answer, progress })
+    let to = To::Ended(answer);
+    Turn { to, progress }
+}
+
+// The search goes on from this state.
+fn goes_on(state: Illinois, progress: Progress) -> Turn
+    ensures { λ r. ⌜ viewed r ≡ (next state, progress) ⌝ }
+{
+    let to = To::Next(state);
+    Turn { to, progress }
 }
 
 // The sample is a root by its value.
@@ -66,11 +84,12 @@ fn second_at(stop: StopRule, p: Sample, q: Sample, progress: Progress) -> Turn
     if stop.found(q.y) {
         return by_value(q, progress);
     }
-    let marked = progress.ruled(1, searching::product_departs(p, q));
-    if doubles::same_sign(p.y, q.y) {
+    let decided = searching::alike(p, q, progress);
+    let marked = decided.progress;
+    if decided.holds {
         return ended(Answer::Refused(6), marked);
     }
-    Turn::Next(
+    goes_on(
         Illinois {
             left: End { at: p, weight: p.y },
             right: End { at: q, weight: q.y },
@@ -109,16 +128,13 @@ fn ordered(a: &[f64], stop: StopRule, x1: f64, x2: f64, progress: Progress) -> T
     first_at(a, stop, x2, p, counted)
 }
 
-// The smaller start comes first, and equal ones keep their order.
-fn opened(a: &[f64], stop: StopRule, from: f64, to: f64) -> Turn
-    ensures { λ r. ⌜ viewed r ≡ play tallied (oracle (now (a .entry))) (opening stop from to) fresh ⌝ }
+// The opening from any two starts.
+fn opened(a: &[f64], stop: StopRule, from: f64, to: f64, progress: Progress) -> Turn
+    requires { ⌜ Room 2 progress ⌝ }
+    ensures { λ r. ⌜ viewed r ≡ play tallied (oracle (now (a .entry))) (opening stop from to) progress ⌝ }
 {
-    let progress = Progress::fresh();
-    if from > to {
-        ordered(a, stop, to, from, progress)
-    } else {
-        ordered(a, stop, from, to, progress)
-    }
+    let starts = searching::in_order(from, to);
+    ordered(a, stop, starts.first, starts.second, progress)
 }
 
 // ---- a step
@@ -162,26 +178,29 @@ fn left_after(edge: Edge, e: End) -> End
     }
 }
 
-// The sample takes the place of the end whose sign it shares.
-fn replaced(s: Illinois, p: Sample) -> Illinois
-    ensures { λ r. ⌜ r ≡ replacedOf s p ⌝ }
+// The sample takes the left end's place.
+fn left_replaced(s: Illinois, p: Sample) -> Illinois
+    ensures { λ r. ⌜ r ≡ leftReplaced s p ⌝ }
+{
+    let edge = s.edge;
+    let right = s.right;
+    Illinois {
+        left: End { at: p, weight: p.y },
+        right: right_after(edge, right),
+        edge: Edge::EdgeX1,
+    }
+}
+
+// The sample takes the right end's place.
+fn right_replaced(s: Illinois, p: Sample) -> Illinois
+    ensures { λ r. ⌜ r ≡ rightReplaced s p ⌝ }
 {
     let edge = s.edge;
     let left = s.left;
-    let right = s.right;
-    let new = End { at: p, weight: p.y };
-    if doubles::same_sign(p.y, left.at.y) {
-        Illinois {
-            left: new,
-            right: right_after(edge, right),
-            edge: Edge::EdgeX1,
-        }
-    } else {
-        Illinois {
-            left: left_after(edge, left),
-            right: new,
-            edge: Edge::EdgeX2,
-        }
+    Illinois {
+        left: left_after(edge, left),
+        right: End { at: p, weight: p.y },
+        edge: Edge::EdgeX2,
     }
 }
 
@@ -198,17 +217,24 @@ fn elsewhere(same: bool, first: bool, second: bool) -> bool
     }
 }
 
-// Whether the Rust, which multiplies with the weights, would replace another end than the signs say.
-fn departs(s: Illinois, p: Sample) -> bool
-    ensures { λ r. ⌜ r ≡ departs s p ⌝ }
+// Whether the Rust, which multiplies with the weights, would replace another end: other than the left one if the sample has the same sign as that.
+fn departs_from(same: bool, s: Illinois, p: Sample) -> bool
+    ensures { λ r. ⌜ r ≡ departsFrom same s p ⌝ }
 {
-    let same = doubles::same_sign(p.y, s.left.at.y);
     let first = doubles::is_above(p.y * s.left.weight);
     let second = doubles::is_above(p.y * s.right.weight);
     elsewhere(same, first, second)
 }
 
-// The sample at the candidate is found, or it replaces an end.
+// A step to this state, with rule 1's mark where the Rust would have gone to another.
+fn stepped_to(state: Illinois, departed: bool, p: Progress) -> Turn
+    requires { ⌜ Room 1 p ⌝ }
+    ensures { λ r. ⌜ ((cs : List Float) → viewed r ≡ play tallied (oracle cs) (log (ruled 1 departed) (narrowsTo pairOf state)) p) ⌝ }
+{
+    goes_on(state, p.ruled(1, departed).stepped())
+}
+
+// The sample at the candidate is found, or it takes the place of the end whose sign it shares.
 fn arrived(stop: StopRule, s: Illinois, sample: Sample, p: Progress) -> Turn
     requires { ⌜ Room 1 p ⌝ }
     ensures { λ r. ⌜ ((cs : List Float) → viewed r ≡ play tallied (oracle cs) (arrived stop s sample) p) ⌝ }
@@ -216,8 +242,11 @@ fn arrived(stop: StopRule, s: Illinois, sample: Sample, p: Progress) -> Turn
     if stop.found(sample.y) {
         return by_value(sample, p);
     }
-    let marked = p.ruled(1, departs(s, sample));
-    Turn::Next(replaced(s, sample), marked.stepped())
+    if doubles::same_sign(sample.y, s.left.at.y) {
+        stepped_to(left_replaced(s, sample), departs_from(true, s, sample), p)
+    } else {
+        stepped_to(right_replaced(s, sample), departs_from(false, s, sample), p)
+    }
 }
 
 // The pair is small enough and x is the answer, or x is evaluated.
@@ -252,9 +281,8 @@ fn pulled_in(a: &[f64], stop: StopRule, s: Illinois, x: f64, p: Progress) -> Tur
 {
     let x1 = s.left.at.x;
     let x2 = s.right.at.x;
-    let marked = p.ruled(2, doubles::is_outside(x1, x2, x));
-    let inside = doubles::pulled(x1, x2, x);
-    landed(a, stop, s, inside, marked)
+    let placed = searching::pull(x1, x2, x, p);
+    landed(a, stop, s, placed.x, placed.progress)
 }
 
 // One step: the candidate is refused if it isn't finite.
@@ -272,28 +300,43 @@ fn take_turn(a: &[f64], stop: StopRule, s: Illinois, p: Progress) -> Turn
 
 // ---- the search
 
-// The opening, and then as many turns as the rule allows, until one of them ends the search.
+// From a state on: a step at a time, until an end or the limit.
+fn searched(a: &[f64], stop: StopRule, begun: Illinois, progress: Progress, most: u64) -> Outcome
+    requires { ⌜ (most ≤ 400) × Room 2000 progress ⌝ }
+    ensures { λ r. ⌜ r ≡ runOf (now (a .entry)) (turnFrom stop) most begun progress ⌝ }
+{
+    let mut s = begun;
+    let mut p = progress;
+    let mut n: u64 = 0;
+    while n < most {
+        let turn = take_turn(a, stop, s, p);
+        let to = turn.to;
+        p = turn.progress;
+        match to {
+            To::Ended(answer) => return Outcome {
+                answer,
+                progress: p,
+            },
+            To::Next(next) => s = next,
+        }
+        n += 1;
+    }
+    Outcome {
+        answer: Answer::Refused(8),
+        progress: p,
+    }
+}
+
+// A root by the Illinois form of regula falsi between two starts: the opening, and the steps from there.
 pub fn find_root(a: &[f64], stop: StopRule, from: f64, to: f64) -> Outcome
     requires { ⌜ stop .limit ≤ 400 ⌝ }
     ensures { λ r. ⌜ r ≡ regulaFalsi (now (a .entry)) stop from to ⌝ }
 {
-    let most = stop.turns();
-    let mut turn = opened(a, stop, from, to);
-    let mut n: u64 = 0;
-    while n < most {
-        match turn {
-            Turn::Ended(outcome) => return outcome,
-            Turn::Next(s, p) => {
-                turn = take_turn(a, stop, s, p);
-            }
-        }
-        n += 1;
-    }
-    match turn {
-        Turn::Ended(outcome) => outcome,
-        Turn::Next(_, p) => Outcome {
-            answer: Answer::Refused(8),
-            progress: p,
-        },
+    let turn = opened(a, stop, from, to, Progress::fresh());
+    let leads = turn.to;
+    let progress = turn.progress;
+    match leads {
+        To::Ended(answer) => Outcome { answer, progress },
+        To::Next(begun) => searched(a, stop, begun, progress, stop.turns()),
     }
 }

@@ -1,4 +1,5 @@
 // The calls that a customer makes: one search over lent coefficients, and one for each method under its name in the Rust.
+use numerical::Answer;
 use numerical::Outcome;
 use simple_convergency::Checked;
 use simple_convergency::StopRule;
@@ -6,6 +7,7 @@ ghost use mathlib.Core.Path.{_≡_};
 ghost use mathlib.Core.List.{[], _∷_};
 ghost use Prim.Native.Nat.{_≤_};
 ghost use Rattle.roots.specs.Calls.{badCount, allFinite, startsOf, foundBy, foundUnder, answer, plainLimit};
+ghost use Rattle.roots.specs.Coefficients.{beforeLook, refusalLeavesOpen, leavesOpen, afterLook};
 ghost use Rattle.simple_convergency.specs.Stop.{checkedOf};
 
 // A method with its starts.
@@ -91,22 +93,63 @@ fn found_under(a: &[f64], method: Method, eps: f64, limit: u64) -> Outcome
     }
 }
 
-// A search: refusals 1 to 5 in that order, before any evaluation, and then the method.
+// Refusals 3 to 5, and then the search, with no look at the coefficients.
+fn before_look(a: &[f64], method: Method, eps: f64, limit: u64) -> Outcome
+    ensures { λ r. ⌜ r ≡ beforeLook (now (a .entry)) method eps limit ⌝ }
+{
+    if starts_finite(method) {
+        found_under(a, method, eps, limit)
+    } else {
+        Outcome::refused_at_once(3)
+    }
+}
+
+// Whether a refusal comes after 2 and before any evaluation, or is 9, where a value wasn't finite.
+fn refusal_leaves_open(number: u8) -> bool
+    ensures { λ r. ⌜ r ≡ refusalLeavesOpen number ⌝ }
+{
+    if number < 6 { true } else { number == 9 }
+}
+
+// Whether an answer leaves it open that a coefficient isn't finite. Where a value was finite, all coefficients are.
+fn leaves_open(answer: Answer) -> bool
+    ensures { λ r. ⌜ r ≡ leavesOpen answer ⌝ }
+{
+    match answer {
+        Answer::ByValue { root: _, value: _ } => false,
+        Answer::ByWidth {
+            root: _,
+            p: _,
+            q: _,
+        } => false,
+        Answer::Refused(number) => refusal_leaves_open(number),
+    }
+}
+
+// The outcome, or refusal 2 where that is left open and a coefficient isn't finite.
+fn after_look(a: &[f64], outcome: Outcome) -> Outcome
+    ensures { λ r. ⌜ r ≡ afterLook (now (a .entry)) outcome ⌝ }
+{
+    let answer = outcome.answer;
+    if leaves_open(answer) {
+        if all_finite(a) {
+            outcome
+        } else {
+            Outcome::refused_at_once(2)
+        }
+    } else {
+        outcome
+    }
+}
+
+// A search: refusals 1 to 5 in that order, and then the method. Only what leaves 2 open costs a pass over the coefficients.
 pub fn search(a: &[f64], method: Method, eps: f64, limit: u64) -> Outcome
     ensures { λ r. ⌜ r ≡ answer (now (a .entry)) method eps limit ⌝ }
 {
     if is_bad_count(a.len()) {
         return Outcome::refused_at_once(1);
     }
-    if all_finite(a) {
-        if starts_finite(method) {
-            found_under(a, method, eps, limit)
-        } else {
-            Outcome::refused_at_once(3)
-        }
-    } else {
-        Outcome::refused_at_once(2)
-    }
+    after_look(a, before_look(a, method, eps, limit))
 }
 
 // A search with the limit that a plain eps has in the Rust.

@@ -1,11 +1,10 @@
 -- Laws of bracketing: how a search begins, goes on and ends.
-use Prim.Native.Nat.{ℕ, zero, suc, _+_, _≤_, max}
+use Prim.Native.Nat.{ℕ, zero, suc, _≤_}
 use native.Mathlib.Omega.{arith}
-use mathlib.Core.Bool.{Bool, true, false}
+use mathlib.Core.Bool.{true, false}
 use mathlib.Core.List.{List, [], _∷_}
-use mathlib.Core.Logic.{_⊎_, inl, inr}
-use mathlib.Core.Path.{_≡_, refl, ap, sym, _∙_, subst}
-use lib.Dec.{T}
+use mathlib.Core.Logic.{inl, inr}
+use mathlib.Core.Path.{_≡_, refl, ap, _∙_}
 use lib.Ieee.{Float}
 use lib.Ieee.Bits.{is-true}
 use lib.Ieee.Scale.{finite}
@@ -13,9 +12,8 @@ use Rattle.doubles.specs.Compare.{Num, finite-num}
 use Rattle.doubles.specs.Doubles.{sameSign, pulled}
 use Rattle.doubles.specs.Number.{Double}
 use Rattle.doubles.specs.Signs.{same-symmetric}
-use Rattle.doubles.specs.Pairs.{Pair, In, Inside, Nested, in-trans, end-in, one-end, second-kept, pulled-inside, pulled-one}
-use Rattle.numerical.specs.declared.Answer.{Answer}
-use Rattle.numerical.specs.declared.Answer.the-variants.{ByValue, ByWidth, Refused}
+use Rattle.doubles.specs.Pairs.{In, Inside, Nested, in-trans, end-in, pulled-inside, pulled-one}
+use Rattle.numerical.specs.declared.Answer.the-variants.{ByValue, Refused}
 use Rattle.numerical.specs.declared.Interval.{Interval}
 use Rattle.numerical.specs.declared.Sample.{Sample}
 use Rattle.simple_convergency.specs.Stop.{foundAt, turnsOf}
@@ -25,7 +23,7 @@ use Rattle.polynom.specs.declared.Evaluated.the-variants.{At}
 use Rattle.searching.specs.Programs.{found, alike, tested, candidate, ruled, paired, stepped, productDeparts, Turned, Prog, valueAt, bracketed, oracle, Event, asked, noted}
 use Rattle.searching.specs.Histories.{stepsIn}
 use Rattle.searching.specs.Keeps.{Ends, After, ends-value, ends-bracketed}
-use Rattle.searching.specs.Reasons.{someEnds, True, Going, Reason, Standing, by-value, of-signs, of-value, of-candidate}
+use Rattle.searching.specs.Reasons.{someEnds, True, Going, Reason, by-value, of-signs, of-value, of-candidate}
 use Rattle.searching.specs.ReasonLaws.{Answered, answered, not-answered, standing-on, standing-next, standing-going, standing-limit}
 use Rattle.searching.specs.Brackets.{pairsIn, pointsOf, Backed, Fit, AtStarts, Narrows, no-pair, first-pair, next-pair, Told, Bracket, Unpaired, Bracketing}
 

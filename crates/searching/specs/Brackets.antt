@@ -1,6 +1,6 @@
 -- What is promised of the pairs of a bracketing method, over its history. Definitions only.
-use Prim.Native.Nat.{ℕ, _+_}
-use mathlib.Core.Bool.{Bool, true, false}
+use Prim.Native.Nat.{ℕ}
+use mathlib.Core.Bool.{true, false}
 use mathlib.Core.List.{List, [], _∷_}
 use mathlib.Core.Logic.{_⊎_}
 use mathlib.Core.Path.{_≡_}
@@ -15,7 +15,7 @@ use Rattle.numerical.specs.declared.Sample.{Sample}
 use Rattle.simple_convergency.specs.Stop.{turnsOf}
 use Rattle.simple_convergency.specs.declared.StopRule.{StopRule}
 use Rattle.polynom.specs.Polynom.{value}
-use Rattle.searching.specs.Programs.{Note, tested, candidate, ruled, paired, stepped, Event, asked, askedBoth, noted}
+use Rattle.searching.specs.Programs.{tested, candidate, ruled, paired, stepped, Event, asked, askedBoth, noted}
 use Rattle.searching.specs.Reasons.{True, Reason, Standing}
 
 -- the pairs of a history, newest first

@@ -15,7 +15,7 @@ use Rattle.numerical.specs.declared.Sample.{Sample}
 use Rattle.simple_convergency.specs.declared.StopRule.{StopRule}
 use Rattle.polynom.specs.declared.Evaluated.the-variants.{At, NotFinite}
 use Rattle.polynom.specs.declared.EvaluatedBoth.the-variants.{Both, NotBothFinite}
-use Rattle.searching.specs.Programs.{Test, found, converged, flat, alike, holds, Note, tested, candidate, ruled, paired, stepped, Event, asked, askedBoth, noted}
+use Rattle.searching.specs.Programs.{Test, found, converged, flat, alike, holds, tested, candidate, ruled, paired, stepped, Event, asked, askedBoth, noted}
 use Rattle.searching.specs.Histories.{stepsIn}
 use Rattle.searching.specs.Reasons.{Occurs, endsRun, someEnds, Calls, SignsHeld, FlatHeld, NoneHeld, NotFiniteIn, EvaluatedAt, Reason, by-value, by-width, by-middle, of-signs, of-flatness, of-limit, of-value, of-derivative, of-candidate, of-middle}
 

@@ -1,10 +1,8 @@
 -- What holds where a program ends, with its history: one rule for each word of the language, and one for a whole search.
-use Prim.Native.Nat.{ℕ, zero, suc, _+_}
-use native.Mathlib.Nat.{add-zero}
-use native.Mathlib.Omega.{arith}
+use Prim.Native.Nat.{ℕ, zero, suc}
 use mathlib.Core.Bool.{Bool, true, false}
 use mathlib.Core.List.{List, [], _∷_}
-use mathlib.Core.Path.{_≡_, refl, ap, sym, _∙_, subst}
+use mathlib.Core.Path.{_≡_, refl}
 use lib.Ieee.{Float}
 use lib.Ieee.Scale.{finite}
 use Rattle.doubles.specs.Doubles.{outside, pulled, sameSign}
@@ -18,9 +16,9 @@ use Rattle.polynom.specs.declared.Evaluated.{Evaluated}
 use Rattle.polynom.specs.declared.Evaluated.the-variants.{At, NotFinite}
 use Rattle.polynom.specs.declared.EvaluatedBoth.{EvaluatedBoth}
 use Rattle.polynom.specs.declared.EvaluatedBoth.the-variants.{Both, NotBothFinite}
-use Rattle.searching.specs.Programs.{Test, holds, alike, Note, tested, candidate, ruled, paired, stepped, Prog, done, ask, askBoth, log, Turned, ended, next, bind, test, stops, sampled, sampledBoth, valueAt, bothAt, offered, pulledInto, productDeparts, bracketed, stepsTo, narrowsTo, run, searches, Oracle, Event, asked, askedBoth, noted, play}
+use Rattle.searching.specs.Programs.{Test, holds, alike, Note, tested, candidate, ruled, paired, stepped, Prog, done, log, Turned, ended, next, bind, test, stops, sampled, sampledBoth, valueAt, bothAt, offered, pulledInto, productDeparts, bracketed, stepsTo, narrowsTo, run, searches, Oracle, Event, asked, askedBoth, noted, play}
 use Rattle.searching.specs.Histories.{listed}
-use Rattle.searching.specs.ProgramLaws.{play-bind, run-ended}
+use Rattle.searching.specs.ProgramLaws.{play-bind}
 
 -- played from the history h on, the program g ends where Q holds
 pub record Ends {A : Type 0} (o : Oracle) (Q : A → List Event → Type 0) (g : Prog A) (h : List Event) : Type 0 where
@@ -55,6 +53,9 @@ module _ {A : Type 0} {o : Oracle} {Q : A → List Event → Type 0} {h : List E
   pub ends-pulled : (k : Float → Prog A) (u v x : Float) → Ends o Q (k (pulled u v x)) (noted (ruled 2 (outside u v x)) ∷ h) → Ends o Q (pulledInto u v x k) h
   unfolding pulledInto play
   ends-pulled k u v x q = record { there = q .there }
+
+-- a test of either kind, for `search`
+pub ruleset branches = (ends-test, ends-stops)
 
 module _ {S : Type 0} {o : Oracle} {Q : Turned S → List Event → Type 0} {h : List Event} where
   pub ends-value :

@@ -1,4 +1,4 @@
--- The loop of every method: n turns are made, the code stands at t, and what is left of the run gives the whole answer.
+-- The search of every method: what its opening came to, and its loop. After n turns the code stands at a state s, and what is left of the run gives the whole answer.
 use Prim.Native.Nat.{ℕ, zero, suc, _+_, _*_, _-_, _≤_, _<_}
 use native.Mathlib.Omega.{arith}
 use native.Mathlib.Nat.{sub-zero}
@@ -16,82 +16,92 @@ use Rattle.searching.specs.Programs.{Prog, done, Turned, ended, next, bi
 use Rattle.searching.specs.ProgramLaws.{play-bind, run-ended}
 use Rattle.searching.specs.Bounds.{Within, within-room}
 
--- a method as its loop needs it: S is its state, and T the enum that a turn of its code answers
-pub record Method (S T : Type 0) : Type 0 where
-  pub opening : Prog (Turned S)
-  pub turns : Turned S → ℕ
+-- the turns of a method, and of its code: S is its state, and T the enum that says where a turn leads
+pub record Turns (S T : Type 0) : Type 0 where
   pub turn : S → Prog (Turned S)
-  pub view : T → Turned S × Progress
-  pub end : Outcome → T
-  pub go : S → Progress → T
-  pub view-end : (o : Outcome) → view (end o) ≡ (ended (o .answer), o .progress)
-  pub view-go : (s : S) (p : Progress) → view (go s p) ≡ (next s, p)
-  pub opening-small : Within 3 3 3 opening
-  pub turn-small : (s : S) → Within 3 3 3 (turn s)
+  pub seen : T → Turned S
+  pub end : Answer → T
+  pub go : S → T
+  pub seen-end : (a : Answer) → seen (end a) ≡ ended a
+  pub seen-go : (s : S) → seen (go s) ≡ next s
+  pub small : (s : S) → Within 3 3 3 (turn s)
 
-abbrev pub program : {S T : Type 0} → Method S T → Prog Answer
-program m = searches (m .opening) (m .turns) (m .turn)
+-- what at most n turns from the state s on come to
+unfoldable pub runOf : {S : Type 0} → List Float → (S → Prog (Turned S)) → ℕ → S → Progress → Outcome
+runOf cs turn n s p = outcome (play tallied (oracle cs) (run turn n (next s)) p)
 
-module _ {S T : Type 0} (m : Method S T) (cs : List Float) (w : Outcome) where
+-- after an opening there is room for all turns
+pub opened-room :
+    {S : Type 0} (opening : Prog (Turned S)) (cs : List Float) {u : Turned S} {p q : Progress} →
+    q ≡ fresh → (u, p) ≡ play tallied (oracle cs) opening q → Within 3 3 3 opening → Room 2000 p
+opened-room {S} opening cs begun opened small =
+    let came-to = opened ∙ ap (play tallied (oracle cs) opening) begun in
+    rw (ap (λ (r : Turned S × Progress). r .1) came-to) (within-room (oracle cs) small (omega arith) (omega arith) (omega arith) (omega arith) (room-fresh {k = 2 * 2 * 1000} (omega arith) refl))
+
+module _
+    {S T : Type 0} (m : Turns S T) (opening : Prog (Turned S)) (turns : Turned S → ℕ) (cs : List Float)
+    {t : T} {p q : Progress} (begun : q ≡ fresh) (opened : (m .seen t, p) ≡ play tallied (oracle cs) opening q) where
+  came-to : (m .seen t, p) ≡ play tallied (oracle cs) opening fresh
+  came-to = opened ∙ ap (play tallied (oracle cs) opening) begun
+
+  -- the opening ended the search
+  pub opened-ended : {a : Answer} → t ≡ m .end a → outcome (a, p) ≡ answerOf cs (searches opening turns (m .turn))
+  unfolding answerOf searches play
+  opened-ended {a} e = rw (play-bind, ← came-to, e, m .seen-end a, run-ended) refl
+
+  -- the opening came to a state: the turns from there are the rest
+  pub opened-next : {s : S} {most : ℕ} {r : Outcome} → t ≡ m .go s → most ≡ turns (next s) → r ≡ runOf cs (m .turn) most s p → r ≡ answerOf cs (searches opening turns (m .turn))
+  unfolding answerOf searches runOf
+  opened-next {s} e f g = g ∙ rw (f, play-bind, ← came-to, e, m .seen-go s) refl
+
+module _ {S T : Type 0} (m : Turns S T) (cs : List Float) (w : Outcome) where
   -- the loop's invariant, before turn n of at most `most`: w is the whole answer
-  pub record Loops (most n : ℕ) (t : T) : Type 0 where
-    pub rest : outcome (play tallied (oracle cs) (run (m .turn) (most - n) (m .view t .0)) (m .view t .1)) ≡ w
+  pub record Loops (most n : ℕ) (s : S) (p : Progress) : Type 0 where
+    pub rest : runOf cs (m .turn) (most - n) s p ≡ w
     pub passed : n ≤ most
     pub top : most ≤ 400
-    pub room : Room (3 * (most - n)) (m .view t .1)
+    pub room : Room (3 * (most - n)) p
 
-  pub loops-first :
-      {most : ℕ} (t : T) → m .view t ≡ play tallied (oracle cs) (m .opening) fresh →
-      most ≡ m .turns (m .view t .0) → most ≤ 400 → w ≡ answerOf cs (program m) → Loops most 0 t
-  unfolding answerOf searches
-  loops-first {most} t e f h k =
-      record {
-        rest = rw (k, sub-zero, f, e, play-bind) refl;
-        passed = omega arith;
-        top = h;
-        room = rw e (within-room (oracle cs) (m .opening-small) (omega arith) (omega arith) (omega arith) (omega arith) (room-fresh {k = 2 * 2 * 1000} (omega arith) refl));
-      }
+  pub loops-first : {most : ℕ} {s : S} {p : Progress} → most ≤ 400 → Room 2000 p → w ≡ runOf cs (m .turn) most s p → Loops most 0 s p
+  loops-first h r e =
+      let a = r .steps in let b = r .values in let c = r .derivatives in
+      record { rest = rw (e, sub-zero) refl; passed = omega arith; top = h; room = record { steps = omega arith; values = omega arith; derivatives = omega arith } }
 
-  module _ {most n : ℕ} (t : T) (i : Loops most n t) where
-    pub loops-next :
-        {s : S} {p : Progress} (u : T) → n < most → t ≡ m .go s p → m .view u ≡ play tallied (oracle cs) (m .turn s) p → Loops most (n + 1) u
-    unfolding run
-    loops-next {s} {p} u h e f =
-        record {
-          rest = rw (f, ← play-bind tallied (oracle cs) (m .turn s) (run (m .turn) (most - (n + 1))) p) left;
-          passed = omega arith;
-          top = i .top;
-          room = rw f (within-room (oracle cs) (m .turn-small s) (omega arith) (omega arith) (omega arith) (omega arith) before);
-        }
-      where
-        seen : m .view t ≡ (next s, p)
-        seen = rw e (m .view-go s p)
-
-        fuel : most - n ≡ suc (most - (n + 1))
-        fuel = omega arith
-
-        left : outcome (play tallied (oracle cs) (bind (m .turn s) (run (m .turn) (most - (n + 1)))) p) ≡ w
-        left = rw (fuel, seen) at (i .rest)
-
-        before : Room (3 * (most - n)) p
-        before = rw seen at (i .room)
-
-    pub loops-room : {s : S} {p : Progress} → n < most → t ≡ m .go s p → Room 3 p
-    loops-room {s} {p} h e =
-        let r : Room (3 * (most - n)) p = rw (e, m .view-go s p) at (i .room) in
-        let a = r .steps in let b = r .values in let c = r .derivatives in
+  module _ {most n : ℕ} {s : S} {p : Progress} (i : Loops most n s p) where
+    pub loops-room : n < most → Room 3 p
+    loops-room h =
+        let a = i .room .steps in let b = i .room .values in let c = i .room .derivatives in
         record { steps = omega arith; values = omega arith; derivatives = omega arith }
 
-    pub loops-ended : {r : Outcome} → t ≡ m .end r → r ≡ w
-    unfolding play
-    loops-ended {r} e = rw (e, m .view-end r, run-ended) at (i .rest)
-
-    pub loops-out : {s : S} {p : Progress} → most ≤ n → t ≡ m .go s p → outcome (Refused 8, p) ≡ w
-    unfolding run play
-    loops-out {s} {p} h e = rw (none, e, m .view-go s p) at (i .rest)
+    pub loops-out : most ≤ n → outcome (Refused 8, p) ≡ w
+    unfolding runOf run play
+    loops-out h = rw none at (i .rest)
       where
         none : most - n ≡ 0
         none = omega arith
+
+    module _ {t : T} {q : Progress} (h : n < most) (f : (m .seen t, q) ≡ play tallied (oracle cs) (m .turn s) p) where
+      -- what is left after one turn more
+      left : outcome (play tallied (oracle cs) (run (m .turn) (most - (n + 1)) (m .seen t)) q) ≡ w
+      unfolding runOf run
+      left = rw (← f) at (rw (fuel, play-bind) at (i .rest))
+        where
+          fuel : most - n ≡ suc (most - (n + 1))
+          fuel = omega arith
+
+      pub loops-next : {s2 : S} → t ≡ m .go s2 → Loops most (n + 1) s2 q
+      unfolding runOf
+      loops-next {s2} e =
+          record {
+            rest = rw (e, m .seen-go s2) at left;
+            passed = omega arith;
+            top = i .top;
+            room = rw (ap (λ (r : Turned S × Progress). r .1) f) (within-room (oracle cs) (m .small s) (omega arith) (omega arith) (omega arith) (omega arith) (i .room));
+          }
+
+      pub loops-ended : {a : Answer} → t ≡ m .end a → outcome (a, q) ≡ w
+      unfolding play
+      loops-ended {a} e = rw (e, m .seen-end a, run-ended) at left
 
 apart : {S : Type 0} {a : Answer} {s : S} → _≡_ {A = Turned S} (ended a) (next s) → ⊥
 apart e = let z : _≡_ {A = ℕ} 0 1 = cc in omega arith
@@ -102,28 +112,17 @@ ended-once e = cc
 next-once : {S : Type 0} {s t : S} → _≡_ {A = Turned S} (next s) (next t) → s ≡ t
 next-once e = cc
 
-same-outcome : (o q : Outcome) → o .answer ≡ q .answer → o .progress ≡ q .progress → o ≡ q
-same-outcome o q a p = λ i. record { answer = a i; progress = p i }
+-- where the code's enum is an end or a state, what it stands for determines it: contracts by views fix their results
+pub data Shown {S T : Type 0} (m : Turns S T) (t : T) : Type 0 where
+  shown-end : (a : Answer) → t ≡ m .end a → Shown m t
+  shown-go : (s : S) → t ≡ m .go s → Shown m t
 
--- where each turn of the code is an end or goes on, its view determines it: contracts by views fix their results
-pub data Shown {S T : Type 0} (m : Method S T) (t : T) : Type 0 where
-  shown-end : (o : Outcome) → t ≡ m .end o → Shown m t
-  shown-go : (s : S) (p : Progress) → t ≡ m .go s p → Shown m t
-
-module _ {S T : Type 0} (m : Method S T) (shown : (t : T) → Shown m t) where
-  pub viewed-once : (x y : T) → m .view x ≡ m .view y → x ≡ y
-  viewed-once x y e = go (shown x) (shown y)
+module _ {S T : Type 0} (m : Turns S T) (shown : (t : T) → Shown m t) where
+  pub seen-once : (x y : T) → m .seen x ≡ m .seen y → x ≡ y
+  seen-once x y e = go (shown x) (shown y)
     where
       go : Shown m x → Shown m y → x ≡ y
-      go (shown-end o a) (shown-end q b) =
-          let v : _≡_ {A = Turned S × Progress} (ended (o .answer), o .progress) (ended (q .answer), q .progress) = sym (m .view-end o) ∙ ap (m .view) (sym a) ∙ e ∙ ap (m .view) b ∙ m .view-end q in
-          a ∙ ap (m .end) (same-outcome o q (ended-once (ap (λ (r : Turned S × Progress). r .0) v)) (ap (λ (r : Turned S × Progress). r .1) v)) ∙ sym b
-      go (shown-end o a) (shown-go s p b) =
-          let v : _≡_ {A = Turned S × Progress} (ended (o .answer), o .progress) (next s, p) = sym (m .view-end o) ∙ ap (m .view) (sym a) ∙ e ∙ ap (m .view) b ∙ m .view-go s p in
-          absurd (apart (ap (λ (r : Turned S × Progress). r .0) v))
-      go (shown-go s p a) (shown-end o b) =
-          let v : _≡_ {A = Turned S × Progress} (ended (o .answer), o .progress) (next s, p) = sym (m .view-end o) ∙ ap (m .view) (sym b) ∙ sym e ∙ ap (m .view) a ∙ m .view-go s p in
-          absurd (apart (ap (λ (r : Turned S × Progress). r .0) v))
-      go (shown-go s p a) (shown-go t q b) =
-          let v : _≡_ {A = Turned S × Progress} (next s, p) (next t, q) = sym (m .view-go s p) ∙ ap (m .view) (sym a) ∙ e ∙ ap (m .view) b ∙ m .view-go t q in
-          a ∙ ap (λ (x : S). m .go x p) (next-once (ap (λ (r : Turned S × Progress). r .0) v)) ∙ ap (m .go t) (ap (λ (r : Turned S × Progress). r .1) v) ∙ sym b
+      go (shown-end a p) (shown-end b q) = p ∙ ap (m .end) (ended-once (sym (m .seen-end a) ∙ ap (m .seen) (sym p) ∙ e ∙ ap (m .seen) q ∙ m .seen-end b)) ∙ sym q
+      go (shown-end a p) (shown-go s q) = absurd (apart (sym (m .seen-end a) ∙ ap (m .seen) (sym p) ∙ e ∙ ap (m .seen) q ∙ m .seen-go s))
+      go (shown-go s p) (shown-end b q) = absurd (apart (sym (m .seen-end b) ∙ ap (m .seen) (sym q) ∙ sym e ∙ ap (m .seen) p ∙ m .seen-go s))
+      go (shown-go s p) (shown-go u q) = p ∙ ap (m .go) (next-once (sym (m .seen-go s) ∙ ap (m .seen) (sym p) ∙ e ∙ ap (m .seen) q ∙ m .seen-go u)) ∙ sym q

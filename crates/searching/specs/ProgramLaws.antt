@@ -27,6 +27,14 @@ unfolding run
 run-ended turn zero a = refl
 run-ended turn (suc n) a = refl
 
+-- where a program ends is the same whichever book is kept
+pub play-end : {A K L : Type 0} (one : Event → K → K) (other : Event → L → L) (o : Oracle) (g : Prog A) (k : K) (l : L) → play one o g k .0 ≡ play other o g l .0
+unfolding play
+play-end one other o (done a) k l = refl
+play-end one other o (ask x f) k l = play-end one other o (f (o .value x)) _ _
+play-end one other o (askBoth x f) k l = play-end one other o (f (o .both x)) _ _
+play-end one other o (log n g) k l = play-end one other o g _ _
+
 -- what a history says of the tallies and the mark
 unfoldable pub counted : List Event → Progress
 counted h =

@@ -2,7 +2,7 @@
 use Prim.Native.Nat.{ℕ, zero, suc}
 use mathlib.Core.Bool.{Bool, true, false, cond, not}
 use mathlib.Core.List.{List, [], _∷_}
-use lib.Ieee.{Float, binary64, mul}
+use lib.Ieee.{Float, binary64, mul, lt}
 use lib.Ieee.Scale.{finite}
 use Rattle.doubles.specs.Doubles.{above, sameSign, outside, pulled}
 use Rattle.numerical.specs.Answers.{outcome}
@@ -126,6 +126,10 @@ differ false b = b
 -- rule 1: "Where the Rust tests a product of two samples' values, the port tests signs"; whether a product above zero says otherwise
 unfoldable pub productDeparts : Sample → Sample → Bool
 productDeparts p q = differ (sameSign (p .y) (q .y)) (above (mul binary64 (p .y) (q .y)))
+
+-- "Starts are ordered, smaller first; equal ones keep their order"
+unfoldable pub rising : {S : Type 0} → Float → Float → (Float → Float → Prog (Turned S)) → Prog (Turned S)
+rising a b k = test (lt b a) (k b a) (k a b)
 
 -- the opening sign test: refusal 6, or the first pair
 unfoldable pub bracketed : {S : Type 0} → StopRule → Sample → Sample → S → Prog (Turned S)

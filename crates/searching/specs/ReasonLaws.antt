@@ -9,12 +9,10 @@ use lib.Ieee.Scale.{finite}
 use Rattle.numerical.specs.declared.Answer.the-variants.{Refused}
 use Rattle.numerical.specs.declared.Sample.{Sample}
 use Rattle.simple_convergency.specs.declared.StopRule.{StopRule}
-use Rattle.polynom.specs.Polynom.{value, valueAndDerivative, evaluated, evaluatedBoth, kept, keptBoth, sampleOf}
+use Rattle.polynom.specs.Polynom.{value, valueAndDerivative, evaluated, evaluatedBoth, sampleOf}
 use Rattle.polynom.specs.Terms.{same-value}
 use Rattle.polynom.specs.declared.ValueAndDerivative.{ValueAndDerivative}
-use Rattle.polynom.specs.declared.Evaluated.{Evaluated}
 use Rattle.polynom.specs.declared.Evaluated.the-variants.{At, NotFinite}
-use Rattle.polynom.specs.declared.EvaluatedBoth.{EvaluatedBoth}
 use Rattle.polynom.specs.declared.EvaluatedBoth.the-variants.{Both, NotBothFinite}
 use Rattle.searching.specs.Programs.{stepped, Event, noted}
 use Rattle.searching.specs.Histories.{stepsIn, markIn}
@@ -28,6 +26,15 @@ pub record Answered (a : List Float) (x : Float) (p : Sample) : Type 0 where
   pub is-true : True a p
 
 module _ (a : List Float) (x : Float) where
+  -- a sample that was answered is at its point
+  pub answered-at : (p : Sample) → evaluated a x ≡ At p → p .x ≡ x
+  unfolding evaluated
+  answered-at p e = go (finite (value a x)) e
+    where
+      go : (b : Bool) → cond b (At (sampleOf x (value a x))) NotFinite ≡ At p → p .x ≡ x
+      go true e = let s : sampleOf x (value a x) ≡ p = cc in ap (λ (q : Sample). q .x) (sym s)
+      go false e = absurd (let z : _≡_ {A = ℕ} 0 1 = cc in omega arith)
+
   pub answered : finite x ≡ true → (p : Sample) → evaluated a x ≡ At p → Answered a x p
   unfolding evaluated
   answered g p e = go (finite (value a x)) refl e

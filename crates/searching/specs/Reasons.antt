@@ -17,7 +17,7 @@ use Rattle.polynom.specs.declared.Evaluated.{Evaluated}
 use Rattle.polynom.specs.declared.Evaluated.the-variants.{At, NotFinite}
 use Rattle.polynom.specs.declared.EvaluatedBoth.{EvaluatedBoth}
 use Rattle.polynom.specs.declared.EvaluatedBoth.the-variants.{Both, NotBothFinite}
-use Rattle.searching.specs.Programs.{Test, found, converged, flat, alike, holds, Note, tested, candidate, ruled, paired, stepped, Event, asked, askedBoth, noted}
+use Rattle.searching.specs.Programs.{Test, found, converged, flat, alike, holds, tested, candidate, ruled, paired, stepped, Event, asked, askedBoth, noted}
 use Rattle.searching.specs.Histories.{stepsIn, markIn}
 
 -- ---- what ends a run

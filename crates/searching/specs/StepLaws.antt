@@ -1,9 +1,9 @@
 -- One law for each word of the language: what the code did there gives what the definition says. They hold for every method.
 use Prim.Native.Nat.{ℕ}
-use mathlib.Core.Bool.{Bool, true, false}
+use mathlib.Core.Bool.{Bool, true, false, cond}
 use mathlib.Core.List.{List}
 use mathlib.Core.Path.{_≡_, refl, _∙_, ap, sym}
-use lib.Ieee.{Float}
+use lib.Ieee.{Float, lt}
 use lib.Ieee.Scale.{finite}
 use Rattle.doubles.specs.Doubles.{outside, pulled, sameSign}
 use Rattle.numerical.specs.Tallies.{fresh, valuedOf, slopedOf, steppedOf, ruledOf}
@@ -19,7 +19,11 @@ use Rattle.polynom.specs.declared.Evaluated.{Evaluated}
 use Rattle.polynom.specs.declared.Evaluated.the-variants.{At, NotFinite}
 use Rattle.polynom.specs.declared.EvaluatedBoth.{EvaluatedBoth}
 use Rattle.polynom.specs.declared.EvaluatedBoth.the-variants.{Both, NotBothFinite}
-use Rattle.searching.specs.Programs.{Test, Note, ruled, Prog, done, log, Turned, ended, next, test, holds, stops, sampled, sampledBoth, valueAt, bothAt, offered, pulledInto, productDeparts, bracketed, stepsTo, narrowsTo, oracle, play, tallied}
+use Rattle.searching.specs.Programs.{Test, Note, ruled, Prog, done, log, Turned, ended, next, test, holds, stops, sampled, sampledBoth, valueAt, bothAt, offered, pulledInto, rising, productDeparts, bracketed, stepsTo, narrowsTo, oracle, play, tallied}
+use Rattle.searching.specs.Rules.{placedIn, alikeBy, inOrder}
+use Rattle.searching.specs.declared.Placed.{Placed}
+use Rattle.searching.specs.declared.Decided.{Decided}
+use Rattle.searching.specs.declared.Starts.{Starts}
 
 -- the code stands at r where the definition, from the progress p on, is to be played
 module _ {A : Type 0} (cs : List Float) (p : Progress) {r : A × Progress} where
@@ -54,6 +58,18 @@ module _ {A : Type 0} (cs : List Float) (p : Progress) {r : A × Progress} where
       f ≡ outside u v x → q ≡ ruledOf 2 f p → y ≡ pulled u v x → r ≡ play tallied (oracle cs) (k y) q → r ≡ play tallied (oracle cs) (pulledInto u v x k) p
   unfolding pulledInto play
   by-pulled u v x k f q y g = g ∙ rw (q, f, y) refl
+
+  pub by-placed :
+      {w : Placed} (u v x : Float) (k : Float → Prog A) →
+      w ≡ placedIn u v x p → r ≡ play tallied (oracle cs) (k (w .x)) (w .progress) → r ≡ play tallied (oracle cs) (pulledInto u v x k) p
+  unfolding pulledInto play
+  by-placed u v x k e g = g ∙ rw e refl
+
+  pub by-alike :
+      {w : Decided} (a b : Sample) (g : Prog A) →
+      w ≡ alikeBy a b p → r ≡ play tallied (oracle cs) g (w .progress) → r ≡ play tallied (oracle cs) (log (ruled 1 (productDeparts a b)) g) p
+  unfolding play
+  by-alike a b g e k = k ∙ rw e refl
 
 module _ {S : Type 0} (cs : List Float) (p : Progress) {r : Turned S × Progress} where
   pub by-value :
@@ -102,6 +118,19 @@ module _ {S : Type 0} (cs : List Float) (p : Progress) {r : Turned S × Progress
   unfolding offered test play
   by-no-offer x k f t y g = g ∙ rw (← y, ← f, t) refl
 
+  -- the definition decides the order of the starts, and the code has decided it
+  pub by-rising :
+      {w : Starts} (a b : Float) (k : Float → Float → Prog (Turned S)) →
+      w ≡ inOrder a b → r ≡ play tallied (oracle cs) (k (w .first) (w .second)) p → r ≡ play tallied (oracle cs) (rising a b k) p
+  unfolding rising test
+  by-rising {w} a b k = either (lt b a)
+    where
+      either :
+          (t : Bool) → w ≡ cond t (record { first = b; second = a }) (record { first = a; second = b }) →
+          r ≡ play tallied (oracle cs) (k (w .first) (w .second)) p → r ≡ play tallied (oracle cs) (test t (k b a) (k a b)) p
+      either true e g = g ∙ rw e refl
+      either false e g = g ∙ rw e refl
+
   pub by-next : {i : S} (s : S) → i ≡ s → r ≡ (next i, p) → r ≡ play tallied (oracle cs) (done (next s)) p
   unfolding play
   by-next s e g = g ∙ rw e refl
@@ -137,9 +166,24 @@ module _ {S : Type 0} (cs : List Float) (p : Progress) {r : Turned S × Progress
   unfolding bracketed stops test play
   by-no-bracket stop a b s d q f t g = g ∙ rw (q, d, ← f, t) refl
 
+  pub by-bracket-decided :
+      {w : Decided} (stop : StopRule) (a b : Sample) (s : S) →
+      w ≡ alikeBy a b p → w .holds ≡ false → r ≡ (next s, w .progress) → r ≡ play tallied (oracle cs) (bracketed stop a b s) p
+  by-bracket-decided stop a b s e f g = by-bracket stop a b s refl (ap (λ (w : Decided). w .progress) e) (ap (λ (w : Decided). w .holds) e) f g
+
+  pub by-bracket-decided-to :
+      {w : Decided} {i : S} (stop : StopRule) (a b : Sample) (s : S) →
+      w ≡ alikeBy a b p → w .holds ≡ false → i ≡ s → r ≡ (next i, w .progress) → r ≡ play tallied (oracle cs) (bracketed stop a b s) p
+  by-bracket-decided-to stop a b s e f i g = by-bracket-decided stop a b s e f (g ∙ rw i refl)
+
+  pub by-no-bracket-decided :
+      {w : Decided} (stop : StopRule) (a b : Sample) (s : S) →
+      w ≡ alikeBy a b p → w .holds ≡ true → r ≡ (ended (Refused 6), w .progress) → r ≡ play tallied (oracle cs) (bracketed stop a b s) p
+  by-no-bracket-decided stop a b s e f g = by-no-bracket stop a b s refl (ap (λ (w : Decided). w .progress) e) (ap (λ (w : Decided). w .holds) e) f g
+
 -- a run begins with nothing done
 pub by-fresh : {A : Type 0} (cs : List Float) {q : Progress} {r : A × Progress} (g : Prog A) → q ≡ fresh → r ≡ play tallied (oracle cs) g q → r ≡ play tallied (oracle cs) g fresh
 by-fresh cs g e k = k ∙ rw e refl
 
 -- all of them, for `search`; by-fresh is listed where a run begins
-pub ruleset steps = (by-true, by-false, by-held, by-missed, by-rule, by-pulled, by-value, by-no-value, by-value-at, by-no-value-at, by-both, by-not-both, by-offer, by-no-offer, by-next, by-step, by-step-to, by-narrow, by-narrow-to, by-bracket, by-bracket-to, by-no-bracket, by-done)
+pub ruleset steps = (by-true, by-false, by-held, by-missed, by-rule, by-pulled, by-placed, by-alike, by-value, by-no-value, by-value-at, by-no-value-at, by-both, by-not-both, by-offer, by-no-offer, by-rising, by-next, by-step, by-step-to, by-narrow, by-narrow-to, by-bracket, by-bracket-to, by-no-bracket, by-bracket-decided, by-bracket-decided-to, by-no-bracket-decided, by-done)

@@ -1,18 +1,84 @@
-// The language of searches has definitions and laws, in specs/. The one function is what several methods ask of two samples.
+// The language of searches has definitions and laws, in specs/. The functions are the two added rules that several methods follow.
+use numerical::Progress;
 use numerical::Sample;
 ghost use mathlib.Core.Path.{_≡_};
-ghost use Rattle.searching.specs.Programs.{differ, productDeparts};
+ghost use Rattle.searching.specs.Rules.{placedIn, alikeBy, inOrder};
 
-// Whether two tests differ.
-fn differ(one: bool, other: bool) -> bool
-    ensures { λ r. ⌜ r ≡ differ one other ⌝ }
-{
-    if one { !other } else { other }
+// A point in the pair, and what the run has done before it is used.
+pub struct Placed {
+    pub x: f64,
+    pub progress: Progress,
 }
 
-// Rule 1: whether a product of the two values that is above zero says otherwise than their signs.
-pub fn product_departs(p: Sample, q: Sample) -> bool
-    ensures { λ r. ⌜ r ≡ productDeparts p q ⌝ }
+// A test of signs, and what the run has done after it.
+pub struct Decided {
+    pub holds: bool,
+    pub progress: Progress,
+}
+
+// Rule 2: the point x, or the nearer end of u, v where it lies outside, with the mark of that.
+pub fn pull(u: f64, v: f64, x: f64, progress: Progress) -> Placed
+    ensures { λ r. ⌜ r ≡ placedIn u v x progress ⌝ }
 {
-    differ(doubles::same_sign(p.y, q.y), doubles::is_above(p.y * q.y))
+    if doubles::is_outside(u, v, x) {
+        Placed {
+            x: doubles::pulled(u, v, x),
+            progress: progress.ruled(2, true),
+        }
+    } else {
+        Placed { x, progress }
+    }
+}
+
+// Rule 1: whether both values are above zero or both below, with the mark where the product says otherwise. A product that is not zero tells the signs.
+pub fn alike(p: Sample, q: Sample, progress: Progress) -> Decided
+    ensures { λ r. ⌜ r ≡ alikeBy p q progress ⌝ }
+{
+    let product = p.y * q.y;
+    if product > 0.0 {
+        return Decided {
+            holds: true,
+            progress,
+        };
+    }
+    if product < 0.0 {
+        return Decided {
+            holds: false,
+            progress,
+        };
+    }
+    if doubles::same_sign(p.y, q.y) {
+        Decided {
+            holds: true,
+            progress: progress.ruled(1, true),
+        }
+    } else {
+        Decided {
+            holds: false,
+            progress,
+        }
+    }
+}
+
+// Two starts in order.
+pub struct Starts {
+    pub first: f64,
+    pub second: f64,
+}
+
+// The smaller start comes first, and equal ones keep their order.
+pub fn in_order(from: f64, to: f64) -> Starts
+    ensures { λ r. ⌜ r ≡ inOrder from to ⌝ }
+{
+    if from > to {
+        Starts {
+            first: to,
+            second: from,
+        }
+    } else {
+        Starts {
+            first: from,
+            second: to,
+        }
+    }
 }

@@ -10,8 +10,9 @@ use Rattle.simple_convergency.specs.Stop.{turnsOf}
 use Rattle.simple_convergency.specs.declared.StopRule.{StopRule}
 use Rattle.searching.specs.Programs.{found, converged, flat, Prog, done, Turned, ended, next, stops, answers, refuses, byValue, valueAt, offered, stepsTo, searches, answerOf}
 use Rattle.secant.specs.declared.Secant.{Secant}
+use Rattle.secant.specs.declared.To.{To}
+use Rattle.secant.specs.declared.To.the-variants.{Ended, Next}
 use Rattle.secant.specs.declared.Turn.{Turn}
-use Rattle.secant.specs.declared.Turn.the-variants.{Ended, Next}
 
 -- ---- the opening: "Found is tested on the first point before the second is evaluated"
 
@@ -69,6 +70,9 @@ secant a stop first second = answerOf a (secantProgram stop first second)
 
 -- ---- what a turn of the code stands for
 
+abbrev pub seen : To → Turned Secant
+seen (Ended a) = ended a
+seen (Next s) = next s
+
 abbrev pub viewed : Turn → Turned Secant × Progress
-viewed (Ended o) = (ended (o .answer), o .progress)
-viewed (Next s p) = (next s, p)
+viewed t = (seen (t .to), t .progress)

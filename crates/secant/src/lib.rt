@@ -11,7 +11,8 @@ ghost use Prim.Native.Nat.{_≤_};
 ghost use lib.Ieee.{Float};
 ghost use Rattle.numerical.specs.Tallies.{Room};
 ghost use Rattle.numerical.specs.declared.Answer.the-variants.{ByValue};
-ghost use Rattle.searching.specs.Programs.{ended, oracle, play, tallied};
+ghost use Rattle.searching.specs.Programs.{ended, next, oracle, play, tallied};
+ghost use Rattle.searching.specs.LoopLaws.{runOf};
 ghost use Rattle.secant.specs.Secant.{secondAt, firstAt, opening, candidateOf, arrived, landed, turnFrom, secant, viewed};
 
 // The two last points.
@@ -20,17 +21,32 @@ pub struct Secant {
     pub second: Sample,
 }
 
-// Where a turn leaves the search: at its end, or at the next state.
-pub enum Turn {
-    Ended(Outcome),
-    Next(Secant, Progress),
+// Where a turn leads: to the search's end, or to the next state.
+pub enum To {
+    Ended(Answer),
+    Next(Secant),
+}
+
+// A turn of the search, with what the run has done after it.
+pub struct Turn {
+    pub to: To,
+    pub progress: Progress,
 }
 
 // The search ends here.
 fn ended(answer: Answer, progress: Progress) -> Turn
     ensures { λ r. ⌜ viewed r ≡ (ended answer, progress) ⌝ }
 {
-    Turn::Ended(Outcome { answer, progress })
+    let to = To::Ended(answer);
+    Turn { to, progress }
+}
+
+// The search goes on from this state.
+fn goes_on(state: Secant, progress: Progress) -> Turn
+    ensures { λ r. ⌜ viewed r ≡ (next state, progress) ⌝ }
+{
+    let to = To::Next(state);
+    Turn { to, progress }
 }
 
 // The sample is a root by its value.
@@ -55,7 +71,7 @@ fn second_at(stop: StopRule, first: Sample, second: Sample, progress: Progress) 
     if stop.found(second.y) {
         return by_value(second, progress);
     }
-    Turn::Next(Secant { first, second }, progress)
+    goes_on(Secant { first, second }, progress)
 }
 
 // The first start was evaluated: it is found, or the second is evaluated.
@@ -105,7 +121,7 @@ fn arrived(stop: StopRule, s: Secant, second: Sample, progress: Progress) -> Tur
         return by_value(second, progress);
     }
     let first = s.second;
-    Turn::Next(Secant { first, second }, progress.stepped())
+    goes_on(Secant { first, second }, progress.stepped())
 }
 
 // The candidate is close to the last point, or it is evaluated.
@@ -150,28 +166,43 @@ fn take_turn(a: &[f64], stop: StopRule, s: Secant, progress: Progress) -> Turn
 
 // ---- the search
 
-// A root by the secant method from two points: the opening, and a step at a time until an end or the limit.
+// From a state on: a step at a time, until an end or the limit.
+fn searched(a: &[f64], stop: StopRule, begun: Secant, progress: Progress, most: u64) -> Outcome
+    requires { ⌜ (most ≤ 400) × Room 2000 progress ⌝ }
+    ensures { λ r. ⌜ r ≡ runOf (now (a .entry)) (turnFrom stop) most begun progress ⌝ }
+{
+    let mut s = begun;
+    let mut p = progress;
+    let mut n: u64 = 0;
+    while n < most {
+        let turn = take_turn(a, stop, s, p);
+        let to = turn.to;
+        p = turn.progress;
+        match to {
+            To::Ended(answer) => return Outcome {
+                answer,
+                progress: p,
+            },
+            To::Next(next) => s = next,
+        }
+        n += 1;
+    }
+    Outcome {
+        answer: Answer::Refused(8),
+        progress: p,
+    }
+}
+
+// A root by the secant method from two points: the opening, and the steps from there.
 pub fn find_root(a: &[f64], stop: StopRule, first: f64, second: f64) -> Outcome
     requires { ⌜ stop .limit ≤ 400 ⌝ }
     ensures { λ r. ⌜ r ≡ secant (now (a .entry)) stop first second ⌝ }
 {
-    let most = stop.turns();
-    let mut turn = opened(a, stop, first, second, Progress::fresh());
-    let mut n: u64 = 0;
-    while n < most {
-        match turn {
-            Turn::Ended(outcome) => return outcome,
-            Turn::Next(s, p) => {
-                turn = take_turn(a, stop, s, p);
-            }
-        }
-        n += 1;
-    }
-    match turn {
-        Turn::Ended(outcome) => outcome,
-        Turn::Next(_, p) => Outcome {
-            answer: Answer::Refused(8),
-            progress: p,
-        },
+    let turn = opened(a, stop, first, second, Progress::fresh());
+    let to = turn.to;
+    let progress = turn.progress;
+    match to {
+        To::Ended(answer) => Outcome { answer, progress },
+        To::Next(begun) => searched(a, stop, begun, progress, stop.turns()),
     }
 }

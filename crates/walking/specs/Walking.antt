@@ -1,8 +1,6 @@
 -- The smallest method: from a start by steps of 1 until a value is found. It shows the language of searches in use.
-use Prim.Native.Nat.{ℕ}
 use mathlib.Core.List.{List}
 use lib.Ieee.{Float, binary64, add}
-use Rattle.numerical.specs.declared.Answer.{Answer}
 use Rattle.numerical.specs.declared.Outcome.{Outcome}
 use Rattle.numerical.specs.declared.Progress.{Progress}
 use Rattle.numerical.specs.declared.Sample.{Sample}
@@ -10,8 +8,9 @@ use Rattle.simple_convergency.specs.Stop.{turnsOf}
 use Rattle.simple_convergency.specs.declared.StopRule.{StopRule}
 use Rattle.polynom.specs.Polynom.{one}
 use Rattle.searching.specs.Programs.{found, Prog, done, Turned, ended, next, stops, byValue, valueAt, offered, stepsTo, searches, answerOf}
+use Rattle.walking.specs.declared.To.{To}
+use Rattle.walking.specs.declared.To.the-variants.{Ended, Next}
 use Rattle.walking.specs.declared.Turn.{Turn}
-use Rattle.walking.specs.declared.Turn.the-variants.{Ended, Next}
 
 -- the sample at hand is found, or the walk goes one further
 unfoldable pub seenAt : StopRule → Sample → Prog (Turned Float)
@@ -30,6 +29,9 @@ unfoldable pub walking : List Float → StopRule → Float → Outcome
 walking a stop x = answerOf a (searches (opening x) (λ r. turnsOf stop) (turnFrom stop))
 
 -- what a turn of the code stands for
+abbrev pub seen : To → Turned Float
+seen (Ended a) = ended a
+seen (Next x) = next x
+
 abbrev pub viewed : Turn → Turned Float × Progress
-viewed (Ended o) = (ended (o .answer), o .progress)
-viewed (Next x p) = (next x, p)
+viewed t = (seen (t .to), t .progress)

@@ -1,12 +1,15 @@
 -- The laws of searches at work: the loop's shape, the bound, the count, and a walk that computes.
-use Prim.Native.Nat.{_≤_}
+use Prim.Native.Nat.{ℕ, _≤_}
 use native.Mathlib.Omega.{arith}
 use native.Mathlib.Nat.{mul-one, le-refl}
 use mathlib.Core.List.{List, [], _∷_}
 use mathlib.Core.Path.{_≡_, refl}
 use lib.Ieee.{Float, binary64, ofBits, add, mul, lt, neg}
 use Rattle.doubles.specs.Doubles.{absolute}
+use Rattle.numerical.specs.Tallies.{fresh}
 use Rattle.numerical.specs.declared.Answer.the-variants.{ByValue}
+use Rattle.numerical.specs.declared.Outcome.{Outcome}
+use Rattle.numerical.specs.declared.Progress.{Progress}
 use Rattle.simple_convergency.specs.Stop.{turnsOf, foundAt}
 use Rattle.simple_convergency.specs.declared.StopRule.{StopRule}
 use Rattle.polynom.specs.Polynom.{value, sums, evaluated}
@@ -14,30 +17,32 @@ use Rattle.searching.specs.Programs.{next, searches, oracle, answerOf, stops, t
 use Rattle.searching.specs.Histories.{history}
 use Rattle.searching.specs.ProgramLaws.{tallies-are-counts, counted}
 use Rattle.searching.specs.Bounds.{Within, within-done, within-stops, within-value, within-offered, within-steps, within-less, within-searches, answer-within}
-use Rattle.searching.specs.LoopLaws.{Method}
-use Rattle.walking.specs.Walking.{seenAt, turnFrom, opening, walking, viewed}
-use Rattle.walking.specs.declared.Turn.{Turn}
-use Rattle.walking.specs.declared.Turn.the-variants.{Ended, Next}
+use Rattle.searching.specs.LoopLaws.{Turns, runOf, opened-next}
+use Rattle.walking.specs.Walking.{seenAt, turnFrom, opening, walking, seen}
+use Rattle.walking.specs.declared.To.{To}
+use Rattle.walking.specs.declared.To.the-variants.{Ended, Next}
 
 pub within-turn : (stop : StopRule) (x : Float) → Within 1 0 1 (turnFrom stop x)
 unfolding turnFrom seenAt
 within-turn stop x = within-value x (λ p. within-stops stop _ within-done (within-offered _ (λ y. within-steps y)))
 
--- the method, for the laws of loops
-abbrev pub method : StopRule → Float → Method Float Turn
-method stop x =
+-- the turns, for the laws of loops
+abbrev pub turns : StopRule → Turns Float To
+turns stop =
     record {
-      opening = opening x;
-      turns = λ r. turnsOf stop;
       turn = turnFrom stop;
-      view = viewed;
+      seen = seen;
       end = Ended;
       go = Next;
-      view-end = λ o. refl;
-      view-go = λ y p. refl;
-      opening-small = within-done;
-      turn-small = λ y. within-less (within-turn stop y) (omega arith) (omega arith) (omega arith);
+      seen-end = λ a. refl;
+      seen-go = λ x. refl;
+      small = λ x. within-less (within-turn stop x) (omega arith) (omega arith) (omega arith);
     }
+
+-- the opening asks for nothing, so the turns from the start are the walk
+pub from-start : (cs : List Float) (stop : StopRule) (x : Float) {n : ℕ} {p : Progress} {r : Outcome} → p ≡ fresh → n ≡ turnsOf stop → r ≡ runOf cs (turnFrom stop) n x p → r ≡ walking cs stop x
+unfolding walking play
+from-start cs stop x f = opened-next (turns stop) (opening x) _ cs f refl refl
 
 module _ (a : List Float) (stop : StopRule) (x : Float) where
   -- the values reported are those of the history

@@ -9,19 +9,37 @@ ghost use mathlib.Core.Path.{_≡_};
 ghost use mathlib.Core.List.{List};
 ghost use Prim.Native.Nat.{_≤_};
 ghost use lib.Ieee.{Float};
-ghost use Rattle.numerical.specs.Tallies.{fresh, Room};
-ghost use Rattle.searching.specs.Programs.{ended, oracle, play, tallied};
-ghost use Rattle.walking.specs.Walking.{seenAt, turnFrom, opening, walking, viewed};
+ghost use Rattle.numerical.specs.Tallies.{Room};
+ghost use Rattle.searching.specs.Programs.{ended, next, oracle, play, tallied};
+ghost use Rattle.searching.specs.LoopLaws.{runOf};
+ghost use Rattle.walking.specs.Walking.{seenAt, turnFrom, walking, viewed};
 
-pub enum Turn {
-    Ended(Outcome),
-    Next(f64, Progress),
+// Where a turn leads: to the walk's end, or to the next point.
+pub enum To {
+    Ended(Answer),
+    Next(f64),
 }
 
+// A turn of the walk, with what the run has done after it.
+pub struct Turn {
+    pub to: To,
+    pub progress: Progress,
+}
+
+// The walk ends here.
 fn ended(answer: Answer, progress: Progress) -> Turn
     ensures { λ r. ⌜ viewed r ≡ (ended answer, progress) ⌝ }
 {
-    Turn::Ended(Outcome { answer, progress })
+    let to = To::Ended(answer);
+    Turn { to, progress }
+}
+
+// The walk goes on from this point.
+fn goes_on(x: f64, progress: Progress) -> Turn
+    ensures { λ r. ⌜ viewed r ≡ (next x, progress) ⌝ }
+{
+    let to = To::Next(x);
+    Turn { to, progress }
 }
 
 // The sample is found, or the walk goes one further.
@@ -40,12 +58,13 @@ fn seen_at(stop: StopRule, s: Sample, p: Progress) -> Turn
     }
     let x = s.x + 1.0;
     if doubles::is_finite(x) {
-        Turn::Next(x, p.stepped())
+        goes_on(x, p.stepped())
     } else {
         ended(Answer::Refused(9), p)
     }
 }
 
+// One turn evaluates the point at hand.
 fn take_turn(a: &[f64], stop: StopRule, x: f64, p: Progress) -> Turn
     requires { ⌜ Room 3 p ⌝ }
     ensures { λ r. ⌜ viewed r ≡ play tallied (oracle (now (a .entry))) (turnFrom stop x) p ⌝ }
@@ -58,33 +77,37 @@ fn take_turn(a: &[f64], stop: StopRule, x: f64, p: Progress) -> Turn
     seen_at(stop, s, counted)
 }
 
-fn opened(x: f64) -> Turn
-    ensures { λ r. ⌜ ((cs : List Float) → viewed r ≡ play tallied (oracle cs) (opening x) fresh) ⌝ }
+// From a point on: a turn at a time, until an end or the limit.
+fn searched(a: &[f64], stop: StopRule, begun: f64, progress: Progress, most: u64) -> Outcome
+    requires { ⌜ (most ≤ 400) × Room 2000 progress ⌝ }
+    ensures { λ r. ⌜ r ≡ runOf (now (a .entry)) (turnFrom stop) most begun progress ⌝ }
 {
-    Turn::Next(x, Progress::fresh())
+    let mut x = begun;
+    let mut p = progress;
+    let mut n: u64 = 0;
+    while n < most {
+        let turn = take_turn(a, stop, x, p);
+        let to = turn.to;
+        p = turn.progress;
+        match to {
+            To::Ended(answer) => return Outcome {
+                answer,
+                progress: p,
+            },
+            To::Next(next) => x = next,
+        }
+        n += 1;
+    }
+    Outcome {
+        answer: Answer::Refused(8),
+        progress: p,
+    }
 }
 
+// The whole walk: its opening asks for nothing, so the turns are all.
 pub fn walk(a: &[f64], stop: StopRule, x: f64) -> Outcome
     requires { ⌜ stop .limit ≤ 400 ⌝ }
     ensures { λ r. ⌜ r ≡ walking (now (a .entry)) stop x ⌝ }
 {
-    let most = stop.turns();
-    let mut turn = opened(x);
-    let mut n: u64 = 0;
-    while n < most {
-        match turn {
-            Turn::Ended(outcome) => return outcome,
-            Turn::Next(y, p) => {
-                turn = take_turn(a, stop, y, p);
-            }
-        }
-        n += 1;
-    }
-    match turn {
-        Turn::Ended(outcome) => outcome,
-        Turn::Next(_, p) => Outcome {
-            answer: Answer::Refused(8),
-            progress: p,
-        },
-    }
+    searched(a, stop, x, Progress::fresh(), stop.turns())
 }

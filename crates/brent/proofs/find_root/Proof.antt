@@ -1,85 +1,47 @@
-use mathlib.Core.Path.{refl}
-use Rattle.searching.specs.StepLaws.{by-fresh}
-use Rattle.searching.specs.LoopLaws.{Loops, loops-first, loops-next, loops-room, loops-ended, loops-out}
 use Rattle.numerical.specs.TallyLaws.{room}
-use Rattle.brent.specs.BrentLaws.{method}
-use Rattle.brent.specs.Brent.{brent, brentProgram}
-use Prim.Native.Nat.{_-_}
+use Rattle.searching.specs.LoopLaws.{opened-room}
+use Rattle.brent.specs.BrentSamples.{evaluations-first}
+use Rattle.brent.specs.BrentLaws.{from-end, from-state, small-opening}
 use native.Mathlib.Omega.{arith}
 use borrow.Author.Needs.{needs}
 use Rattle.brent.proofs.find_root.Statement.{statement}
 use Rattle.brent.proofs.find_root.Tie as tie
 
-abbrev Inv-loop : tie.InvT-loop
-Inv-loop a stop from to most turn₀ n₀ turn n = Loops (method stop from to) a (brent a stop from to) most n turn
-
-abbrev μ-loop : tie.MeasureT-loop
-μ-loop a stop from to most turn₀ n₀ turn n = most - n
-
-turns-requires : tie.Need-turns-requires Inv-loop μ-loop
-turns-requires c κs = search needs
-
-fresh-requires : tie.Need-fresh-requires Inv-loop μ-loop
+fresh-requires : tie.Need-fresh-requires
 fresh-requires c κs = search needs
 
-opening-requires : tie.Need-opening-requires Inv-loop μ-loop
+opening-requires : tie.Need-opening-requires
 opening-requires c κs = search (needs, room)
 
-loop-holds : tie.Need-loop-holds Inv-loop μ-loop
-unfolding brent brentProgram
-loop-holds c = loops-first _ _ _ _ (by-fresh _ _ (c .before .fresh .ensures) (c .opening .ensures _)) (c .before .before .turns .ensures) (omega (arith, c .before .before .turns .ensures)) refl
+enum-known-reached : tie.Need-enum-known-reached
+enum-known-reached c = search needs
 
-enum-known-turn : tie.Need-enum-known-turn Inv-loop μ-loop
-enum-known-turn c = search needs
+enum-known-reached-2 : tie.Need-enum-known-reached-2
+enum-known-reached-2 c = search needs
 
-returns : tie.Need-returns Inv-loop μ-loop
-returns c = search loops-ended
+turns-requires : tie.Need-turns-requires
+turns-requires c κs = search needs
 
-enum-known-turn-2 : tie.Need-enum-known-turn-2 Inv-loop μ-loop
-enum-known-turn-2 c = search needs
+searched-requires : tie.Need-searched-requires
+searched-requires c κs =
+    let opened = c .before .before .before .before .before .opening .ensures (c .before .before .before .before .before .before .before .before .args .stop) in
+    (omega (arith, c .turns .ensures), search (opened-room, small-opening, opened), search (evaluations-first, opened))
 
-take-turn-requires : tie.Need-take-turn-requires Inv-loop μ-loop
-take-turn-requires c κs = search loops-room
+returns : tie.Need-returns
+returns c = search (from-end, c .before .before .before .before .opening .ensures)
 
-add-n : tie.Need-add-n Inv-loop μ-loop
-add-n c = omega arith
-
-loop-less : tie.Need-loop-less Inv-loop μ-loop
-loop-less c = omega arith
-
-loop-again : tie.Need-loop-again Inv-loop μ-loop
-loop-again c = search loops-next
-
-enum-known-turn-3 : tie.Need-enum-known-turn-3 Inv-loop μ-loop
-enum-known-turn-3 c = search needs
-
-enum-known-turn-4 : tie.Need-enum-known-turn-4 Inv-loop μ-loop
-enum-known-turn-4 c = search needs
-
-returns-2 : tie.Need-returns-2 Inv-loop μ-loop
-returns-2 c = search loops-ended
-
-returns-3 : tie.Need-returns-3 Inv-loop μ-loop
-returns-3 c = search loops-out
+returns-2 : tie.Need-returns-2
+returns-2 c = search (from-state, c .before .before .before .before .before .before .opening .ensures)
 
 pub find-root-spec : {M : Type 1} → statement M
 find-root-spec =
     tie.close
     (tie.spec
-    Inv-loop
-    μ-loop
-    turns-requires
     fresh-requires
     opening-requires
-    loop-holds
-    enum-known-turn
+    enum-known-reached
+    enum-known-reached-2
+    turns-requires
+    searched-requires
     returns
-    enum-known-turn-2
-    take-turn-requires
-    add-n
-    loop-less
-    loop-again
-    enum-known-turn-3
-    enum-known-turn-4
-    returns-2
-    returns-3)
+    returns-2)

@@ -1,6 +1,7 @@
 use Rattle.numerical.specs.TallyLaws.{room}
 use Rattle.searching.specs.StepLaws.{steps}
 use Rattle.brent.specs.Brent.{keptA}
+use Rattle.brent.specs.BrentLaws.{moved-larger, moved-not-larger}
 use borrow.Author.Needs.{needs}
 use Rattle.brent.proofs.keep_a.Statement.{statement}
 use Rattle.brent.proofs.keep_a.Tie as tie
@@ -8,41 +9,50 @@ use Rattle.brent.proofs.keep_a.Tie as tie
 valued-requires : tie.Need-valued-requires
 valued-requires c κs = search needs
 
-evaluate-requires : tie.Need-evaluate-requires
-evaluate-requires c κs = search needs
+abs-requires : tie.Need-abs-requires
+abs-requires c κs = search needs
 
-enum-known-e : tie.Need-enum-known-e
-enum-known-e c = search needs
+abs-requires-2 : tie.Need-abs-requires-2
+abs-requires-2 c κs = search needs
 
-enum-told : tie.Need-enum-told
-enum-told c = search needs
-
-ended-requires : tie.Need-ended-requires
-ended-requires c κs = search needs
-
-returns : tie.Need-returns
-returns c = search steps
-
-next-of-requires : tie.Need-next-of-requires
-next-of-requires c κs = search needs
+moved-requires : tie.Need-moved-requires
+moved-requires c κs = search needs
 
 stepped-requires : tie.Need-stepped-requires
 stepped-requires c κs = search (needs, room)
 
+goes-on-requires : tie.Need-goes-on-requires
+goes-on-requires c κs = search needs
+
+returns : tie.Need-returns
+unfolding keptA
+returns c = λ cs known. search (steps, moved-larger)
+
+moved-requires-2 : tie.Need-moved-requires-2
+moved-requires-2 c κs = search needs
+
+stepped-requires-2 : tie.Need-stepped-requires-2
+stepped-requires-2 c κs = search (needs, room)
+
+goes-on-requires-2 : tie.Need-goes-on-requires-2
+goes-on-requires-2 c κs = search needs
+
 returns-2 : tie.Need-returns-2
 unfolding keptA
-returns-2 c = search steps
+returns-2 c = λ cs known. search (steps, moved-not-larger)
 
 pub keep-a-spec : {M : Type 1} → statement M
 keep-a-spec =
     tie.close
     (tie.spec
     valued-requires
-    evaluate-requires
-    enum-known-e
-    enum-told
-    ended-requires
-    returns
-    next-of-requires
+    abs-requires
+    abs-requires-2
+    moved-requires
     stepped-requires
+    goes-on-requires
+    returns
+    moved-requires-2
+    stepped-requires-2
+    goes-on-requires-2
     returns-2)

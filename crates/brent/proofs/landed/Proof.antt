@@ -29,7 +29,7 @@ arrived-requires c κs = search (needs, room)
 
 returns-2 : tie.Need-returns-2
 unfolding landed
-returns-2 c = search steps
+returns-2 c = search (steps, c .arrived .ensures)
 
 pub landed-spec : {M : Type 1} → statement M
 landed-spec =

@@ -1,85 +1,43 @@
 use Rattle.numerical.specs.TallyLaws.{room}
-use Rattle.searching.specs.StepLaws.{by-fresh}
-use mathlib.Core.Path.{refl}
-use Rattle.searching.specs.LoopLaws.{Loops, loops-first, loops-next, loops-room, loops-ended, loops-out}
-use Rattle.newton_raphson.specs.NewtonRaphsonLaws.{method, left-few}
-use Rattle.newton_raphson.specs.NewtonRaphson.{newtonProgram, newtonRaphson}
-use Prim.Native.Nat.{_-_}
-use native.Mathlib.Omega.{arith}
+use Rattle.searching.specs.LoopLaws.{opened-room}
+use Rattle.newton_raphson.specs.NewtonRaphsonLaws.{from-end, from-state, left-few, small-opening}
 use borrow.Author.Needs.{needs}
 use Rattle.newton_raphson.proofs.find_root.Statement.{statement}
 use Rattle.newton_raphson.proofs.find_root.Tie as tie
 
-abbrev Inv-loop : tie.InvT-loop
-Inv-loop a stop start turn₀ most n₀ turn n = Loops (method stop start) a (newtonRaphson a stop start) most n turn
-
-abbrev μ-loop : tie.MeasureT-loop
-μ-loop a stop start turn₀ most n₀ turn n = most - n
-
-fresh-requires : tie.Need-fresh-requires Inv-loop μ-loop
+fresh-requires : tie.Need-fresh-requires
 fresh-requires c κs = search needs
 
-opened-requires : tie.Need-opened-requires Inv-loop μ-loop
+opened-requires : tie.Need-opened-requires
 opened-requires c κs = search (needs, room)
 
-turns-left-requires : tie.Need-turns-left-requires Inv-loop μ-loop
-turns-left-requires c κs = search needs
+enum-known-to : tie.Need-enum-known-to
+enum-known-to c = search needs
 
-loop-holds : tie.Need-loop-holds Inv-loop μ-loop
-unfolding newtonRaphson newtonProgram
-loop-holds c = loops-first _ _ _ _ (search by-fresh) (search needs) (search left-few) refl
+enum-known-to-2 : tie.Need-enum-known-to-2
+enum-known-to-2 c = search needs
 
-enum-known-turn : tie.Need-enum-known-turn Inv-loop μ-loop
-enum-known-turn c = search needs
+passes-left-requires : tie.Need-passes-left-requires
+passes-left-requires c κs = search needs
 
-returns : tie.Need-returns Inv-loop μ-loop
-returns c = search loops-ended
+searched-requires : tie.Need-searched-requires
+searched-requires c κs = (search left-few, search (opened-room, small-opening))
 
-enum-known-turn-2 : tie.Need-enum-known-turn-2 Inv-loop μ-loop
-enum-known-turn-2 c = search needs
+returns : tie.Need-returns
+returns c = search from-end
 
-take-turn-requires : tie.Need-take-turn-requires Inv-loop μ-loop
-take-turn-requires c κs = search loops-room
-
-add-n : tie.Need-add-n Inv-loop μ-loop
-add-n c = omega arith
-
-loop-less : tie.Need-loop-less Inv-loop μ-loop
-loop-less c = omega arith
-
-loop-again : tie.Need-loop-again Inv-loop μ-loop
-loop-again c = search loops-next
-
-enum-known-turn-3 : tie.Need-enum-known-turn-3 Inv-loop μ-loop
-enum-known-turn-3 c = search needs
-
-enum-known-turn-4 : tie.Need-enum-known-turn-4 Inv-loop μ-loop
-enum-known-turn-4 c = search needs
-
-returns-2 : tie.Need-returns-2 Inv-loop μ-loop
-returns-2 c = search loops-ended
-
-returns-3 : tie.Need-returns-3 Inv-loop μ-loop
-returns-3 c = search loops-out
+returns-2 : tie.Need-returns-2
+returns-2 c = search from-state
 
 pub find-root-spec : {M : Type 1} → statement M
 find-root-spec =
     tie.close
     (tie.spec
-    Inv-loop
-    μ-loop
     fresh-requires
     opened-requires
-    turns-left-requires
-    loop-holds
-    enum-known-turn
+    enum-known-to
+    enum-known-to-2
+    passes-left-requires
+    searched-requires
     returns
-    enum-known-turn-2
-    take-turn-requires
-    add-n
-    loop-less
-    loop-again
-    enum-known-turn-3
-    enum-known-turn-4
-    returns-2
-    returns-3)
+    returns-2)

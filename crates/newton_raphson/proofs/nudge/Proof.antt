@@ -10,6 +10,9 @@ is-finite-requires c κs = search needs
 stepped-requires : tie.Need-stepped-requires
 stepped-requires c κs = search needs
 
+goes-on-requires : tie.Need-goes-on-requires
+goes-on-requires c κs = search needs
+
 ended-requires : tie.Need-ended-requires
 ended-requires c κs = search needs
 
@@ -23,4 +26,4 @@ returns-2 c = λ cs. search steps
 
 pub nudge-spec : {M : Type 1} → statement M
 nudge-spec =
-    tie.close (tie.spec is-finite-requires stepped-requires ended-requires returns returns-2)
+    tie.close (tie.spec is-finite-requires stepped-requires goes-on-requires ended-requires returns returns-2)

@@ -1,27 +1,38 @@
-use Rattle.searching.specs.StepLaws.{steps}
-use Rattle.numerical.specs.TallyLaws.{room}
-use Rattle.polynom_search.specs.PolynomSearch.{chosen}
+use Rattle.searching.specs.RuleLaws.{rules-room}
+use Rattle.polynom_search.specs.Narrowing.{by-begin-replaced, by-end-replaced}
 use borrow.Author.Needs.{needs}
 use Rattle.polynom_search.proofs.chosen.Statement.{statement}
 use Rattle.polynom_search.proofs.chosen.Tie as tie
 
-product-departs-requires : tie.Need-product-departs-requires
-product-departs-requires c κs = search needs
-
-ruled-requires : tie.Need-ruled-requires
-ruled-requires c κs = search needs
-
-replaced-requires : tie.Need-replaced-requires
-replaced-requires c κs = search needs
+alike-requires : tie.Need-alike-requires
+alike-requires c κs = search needs
 
 stepped-requires : tie.Need-stepped-requires
-stepped-requires c κs = search (needs, room)
+stepped-requires c κs = search (needs, rules-room)
+
+goes-on-requires : tie.Need-goes-on-requires
+goes-on-requires c κs = search needs
+
+stepped-requires-2 : tie.Need-stepped-requires-2
+stepped-requires-2 c κs = search (needs, rules-room)
+
+goes-on-requires-2 : tie.Need-goes-on-requires-2
+goes-on-requires-2 c κs = search needs
 
 returns : tie.Need-returns
-unfolding chosen
-returns c = λ cs. search steps
+returns c = λ cs. search by-begin-replaced
+
+returns-2 : tie.Need-returns-2
+returns-2 c = λ cs. search by-end-replaced
 
 pub chosen-spec : {M : Type 1} → statement M
 chosen-spec =
     tie.close
-    (tie.spec product-departs-requires ruled-requires replaced-requires stepped-requires returns)
+    (tie.spec
+    alike-requires
+    stepped-requires
+    goes-on-requires
+    stepped-requires-2
+    goes-on-requires-2
+    returns
+    returns-2)

@@ -1,5 +1,5 @@
 use Rattle.searching.specs.StepLaws.{steps}
-use Rattle.numerical.specs.TallyLaws.{room}
+use Rattle.searching.specs.RuleLaws.{rules-room}
 use Rattle.polynom_search.specs.PolynomSearch.{atMiddleOf, pulledIn}
 use Rattle.polynom_search.specs.Narrowing.{narrowing}
 use borrow.Author.Needs.{needs}
@@ -12,17 +12,11 @@ middle-requires c κs = search needs
 is-finite-requires : tie.Need-is-finite-requires
 is-finite-requires c κs = search needs
 
-is-outside-requires : tie.Need-is-outside-requires
-is-outside-requires c κs = search needs
-
-ruled-requires : tie.Need-ruled-requires
-ruled-requires c κs = search needs
-
-pulled-requires : tie.Need-pulled-requires
-pulled-requires c κs = search needs
+pull-requires : tie.Need-pull-requires
+pull-requires c κs = search needs
 
 converged-or-requires : tie.Need-converged-or-requires
-converged-or-requires c κs = search (needs, room)
+converged-or-requires c κs = search (needs, rules-room)
 
 ended-requires : tie.Need-ended-requires
 ended-requires c κs = search needs
@@ -41,9 +35,7 @@ narrow-spec =
     (tie.spec
     middle-requires
     is-finite-requires
-    is-outside-requires
-    ruled-requires
-    pulled-requires
+    pull-requires
     converged-or-requires
     ended-requires
     returns

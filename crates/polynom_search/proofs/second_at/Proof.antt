@@ -4,17 +4,14 @@ use borrow.Author.Needs.{needs}
 use Rattle.polynom_search.proofs.second_at.Statement.{statement}
 use Rattle.polynom_search.proofs.second_at.Tie as tie
 
-product-departs-requires : tie.Need-product-departs-requires
-product-departs-requires c κs = search needs
-
-ruled-requires : tie.Need-ruled-requires
-ruled-requires c κs = search needs
-
-same-sign-requires : tie.Need-same-sign-requires
-same-sign-requires c κs = search needs
+alike-requires : tie.Need-alike-requires
+alike-requires c κs = search needs
 
 ended-requires : tie.Need-ended-requires
 ended-requires c κs = search needs
+
+goes-on-requires : tie.Need-goes-on-requires
+goes-on-requires c κs = search needs
 
 returns : tie.Need-returns
 unfolding secondAt
@@ -25,12 +22,4 @@ unfolding secondAt
 returns-2 c = λ cs stop. search steps
 
 pub second-at-spec : {M : Type 1} → statement M
-second-at-spec =
-    tie.close
-    (tie.spec
-    product-departs-requires
-    ruled-requires
-    same-sign-requires
-    ended-requires
-    returns
-    returns-2)
+second-at-spec = tie.close (tie.spec alike-requires ended-requires goes-on-requires returns returns-2)

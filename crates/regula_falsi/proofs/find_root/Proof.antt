@@ -1,79 +1,44 @@
-use mathlib.Core.Path.{refl}
-use Rattle.searching.specs.LoopLaws.{Loops, loops-first, loops-next, loops-room, loops-ended, loops-out}
-use Rattle.regula_falsi.specs.RegulaFalsiLaws.{method}
-use Rattle.regula_falsi.specs.RegulaFalsi.{illinoisProgram, regulaFalsi}
-use Prim.Native.Nat.{_-_}
+use Rattle.numerical.specs.TallyLaws.{room}
+use Rattle.searching.specs.LoopLaws.{opened-room}
+use Rattle.regula_falsi.specs.RegulaFalsiLaws.{from-end, from-state, small-opening}
 use native.Mathlib.Omega.{arith}
 use borrow.Author.Needs.{needs}
 use Rattle.regula_falsi.proofs.find_root.Statement.{statement}
 use Rattle.regula_falsi.proofs.find_root.Tie as tie
 
-abbrev Inv-loop : tie.InvT-loop
-Inv-loop a stop from to most turn₀ n₀ turn n = Loops (method stop from to) a (regulaFalsi a stop from to) most n turn
+fresh-requires : tie.Need-fresh-requires
+fresh-requires c κs = search needs
 
-abbrev μ-loop : tie.MeasureT-loop
-μ-loop a stop from to most turn₀ n₀ turn n = most - n
+opened-requires : tie.Need-opened-requires
+opened-requires c κs = search (needs, room)
 
-turns-requires : tie.Need-turns-requires Inv-loop μ-loop
+enum-known-leads : tie.Need-enum-known-leads
+enum-known-leads c = search needs
+
+enum-known-leads-2 : tie.Need-enum-known-leads-2
+enum-known-leads-2 c = search needs
+
+turns-requires : tie.Need-turns-requires
 turns-requires c κs = search needs
 
-opened-requires : tie.Need-opened-requires Inv-loop μ-loop
-opened-requires c κs = search needs
+searched-requires : tie.Need-searched-requires
+searched-requires c κs = (omega (arith, c .turns .ensures), search (opened-room, small-opening))
 
-loop-holds : tie.Need-loop-holds Inv-loop μ-loop
-unfolding regulaFalsi illinoisProgram
-loop-holds c = loops-first _ _ _ _ (c .opened .ensures) (c .before .turns .ensures) (omega (arith, c .before .turns .ensures)) refl
+returns : tie.Need-returns
+returns c = search from-end
 
-enum-known-turn : tie.Need-enum-known-turn Inv-loop μ-loop
-enum-known-turn c = search needs
-
-returns : tie.Need-returns Inv-loop μ-loop
-returns c = search loops-ended
-
-enum-known-turn-2 : tie.Need-enum-known-turn-2 Inv-loop μ-loop
-enum-known-turn-2 c = search needs
-
-take-turn-requires : tie.Need-take-turn-requires Inv-loop μ-loop
-take-turn-requires c κs = search loops-room
-
-add-n : tie.Need-add-n Inv-loop μ-loop
-add-n c = omega arith
-
-loop-less : tie.Need-loop-less Inv-loop μ-loop
-loop-less c = omega arith
-
-loop-again : tie.Need-loop-again Inv-loop μ-loop
-loop-again c = search loops-next
-
-enum-known-turn-3 : tie.Need-enum-known-turn-3 Inv-loop μ-loop
-enum-known-turn-3 c = search needs
-
-enum-known-turn-4 : tie.Need-enum-known-turn-4 Inv-loop μ-loop
-enum-known-turn-4 c = search needs
-
-returns-2 : tie.Need-returns-2 Inv-loop μ-loop
-returns-2 c = search loops-ended
-
-returns-3 : tie.Need-returns-3 Inv-loop μ-loop
-returns-3 c = search loops-out
+returns-2 : tie.Need-returns-2
+returns-2 c = search from-state
 
 pub find-root-spec : {M : Type 1} → statement M
 find-root-spec =
     tie.close
     (tie.spec
-    Inv-loop
-    μ-loop
-    turns-requires
+    fresh-requires
     opened-requires
-    loop-holds
-    enum-known-turn
+    enum-known-leads
+    enum-known-leads-2
+    turns-requires
+    searched-requires
     returns
-    enum-known-turn-2
-    take-turn-requires
-    add-n
-    loop-less
-    loop-again
-    enum-known-turn-3
-    enum-known-turn-4
-    returns-2
-    returns-3)
+    returns-2)

@@ -14,14 +14,8 @@ returns : tie.Need-returns
 unfolding secondAt
 returns c = λ cs. search steps
 
-product-departs-requires : tie.Need-product-departs-requires
-product-departs-requires c κs = search needs
-
-ruled-requires : tie.Need-ruled-requires
-ruled-requires c κs = search needs
-
-same-sign-requires : tie.Need-same-sign-requires
-same-sign-requires c κs = search needs
+alike-requires : tie.Need-alike-requires
+alike-requires c κs = search needs
 
 ended-requires : tie.Need-ended-requires
 ended-requires c κs = search needs
@@ -29,6 +23,9 @@ ended-requires c κs = search needs
 returns-2 : tie.Need-returns-2
 unfolding secondAt
 returns-2 c = λ cs. search steps
+
+goes-on-requires : tie.Need-goes-on-requires
+goes-on-requires c κs = search needs
 
 returns-3 : tie.Need-returns-3
 unfolding secondAt
@@ -41,9 +38,8 @@ second-at-spec =
     found-requires
     by-value-requires
     returns
-    product-departs-requires
-    ruled-requires
-    same-sign-requires
+    alike-requires
     ended-requires
     returns-2
+    goes-on-requires
     returns-3)

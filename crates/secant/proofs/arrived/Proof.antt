@@ -17,10 +17,13 @@ returns c = λ cs. search steps
 stepped-requires : tie.Need-stepped-requires
 stepped-requires c κs = search needs
 
+goes-on-requires : tie.Need-goes-on-requires
+goes-on-requires c κs = search needs
+
 returns-2 : tie.Need-returns-2
 unfolding arrived
 returns-2 c = λ cs. search steps
 
 pub arrived-spec : {M : Type 1} → statement M
 arrived-spec =
-    tie.close (tie.spec found-requires by-value-requires returns stepped-requires returns-2)
+    tie.close (tie.spec found-requires by-value-requires returns stepped-requires goes-on-requires returns-2)

@@ -14,9 +14,12 @@ returns : tie.Need-returns
 unfolding secondAt
 returns c = λ cs. search steps
 
+goes-on-requires : tie.Need-goes-on-requires
+goes-on-requires c κs = search needs
+
 returns-2 : tie.Need-returns-2
 unfolding secondAt
 returns-2 c = λ cs. search steps
 
 pub second-at-spec : {M : Type 1} → statement M
-second-at-spec = tie.close (tie.spec found-requires by-value-requires returns returns-2)
+second-at-spec = tie.close (tie.spec found-requires by-value-requires returns goes-on-requires returns-2)

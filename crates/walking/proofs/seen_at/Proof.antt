@@ -20,6 +20,9 @@ is-finite-requires c κs = search needs
 stepped-requires : tie.Need-stepped-requires
 stepped-requires c κs = search needs
 
+goes-on-requires : tie.Need-goes-on-requires
+goes-on-requires c κs = search needs
+
 ended-requires-2 : tie.Need-ended-requires-2
 ended-requires-2 c κs = search needs
 
@@ -40,6 +43,7 @@ seen-at-spec =
     returns
     is-finite-requires
     stepped-requires
+    goes-on-requires
     ended-requires-2
     returns-2
     returns-3)
