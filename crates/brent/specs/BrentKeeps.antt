@@ -126,13 +126,13 @@ module _ (a : List Float) (stop : StopRule) (good : above (stop .eps) ≡ true) 
           (λ e. bracket-value (bracket-on b refl refl refl) (s .a .x) (bracket-backed b .begin-double) (λ q u c. keeps-a flag p q _ c t u (search apart)))
           (λ e. bracket-value (bracket-on b refl refl refl) (s .b .x) (bracket-backed b .end-double) (λ q u c. keeps-b flag p q _ c t u (search (other-kept, bracket-backed b .not-alike)))))
 
-      keeps-landed : (flag : Bool) (x : Float) (h : List Event) → Stands (suc n) s h → Double x → In (pointsOf (pairOf s)) x → Reaches n (landed s flag x) h
+      keeps-landed : (flag : Bool) (x : Float) (h : List Event) → Stands (suc n) s h → In (pointsOf (pairOf s)) x → Double x → Reaches n (landed s flag x) h
       unfolding landed
-      keeps-landed flag x h b d i = bracket-value b x d (λ p t c. keeps-arrived flag p _ c (answered-fit t d i))
+      keeps-landed flag x h b i d = bracket-value b x d (λ p t c. keeps-arrived flag p _ c (answered-fit t d i))
 
       keeps-pulled : (flag : Bool) (x : Float) (h : List Event) → Stands (suc n) s h → Double x → Reaches n (pulledIn s flag x) h
       unfolding pulledIn pairsIn stepsIn someEnds
-      keeps-pulled flag x h b d = let w = bracket-pulled b x d in ends-pulled _ _ _ x (keeps-landed flag _ _ (bracket-on b refl refl refl) (w .0) (w .1))
+      keeps-pulled flag x h b d = let w = bracket-pulled b x d in ends-pulled _ _ _ x (keeps-landed flag _ _ (bracket-on b refl refl refl) (search w) (search w))
 
       keeps-with : (bisecting : Bool) (x : Float) (h : List Event) → Stands (suc n) s h → T (fits binary64 x) → Reaches n (stepWith s bisecting x) h
       unfolding stepWith pairsIn stepsIn someEnds

@@ -35,7 +35,7 @@ pub fn value(a: &[f64], x: f64) -> f64
     result + xn
 }
 
-// The value, with the derivative beside it.
+// The value, with the derivative beside it. The next power is begun before this one is used up, which is faster.
 pub fn value_and_derivative(a: &[f64], x: f64) -> ValueAndDerivative
     ensures { λ r. ⌜ r ≡ valueAndDerivative (now (a .entry)) x ⌝ }
 {
@@ -48,10 +48,11 @@ pub fn value_and_derivative(a: &[f64], x: f64) -> ValueAndDerivative
     while i > 0 {
         i -= 1;
         let c = a[i];
-        value = value + c * xn;
         derivative = derivative + c * n * xn1;
+        let next = xn * x;
+        value = value + c * xn;
         xn1 = xn;
-        xn = xn * x;
+        xn = next;
         n = n + 1.0;
     }
     ValueAndDerivative {

@@ -126,15 +126,15 @@ module _ (a : List Float) (stop : StopRule) (from to : Float) (from-double : Dou
         let r = replaced-ends (Fit a (pairOf s)) s p (w .0) (w .1) t in
         ends-log _ (ends-narrows (replacedOf s p) pairOf (bracket-next (bracket-on b refl refl (rw e refl)) _ (r .0) (r .1) (replaced-signs s p (bracket-backed b .not-alike)))))
 
-    keeps-landed : (x : Float) (h : List Event) → Double x → In (pointsOf (pairOf s)) x → Inv (suc n) s h → Reaches n (landed stop s x) h
+    keeps-landed : (x : Float) (h : List Event) → In (pointsOf (pairOf s)) x → Double x → Inv (suc n) s h → Reaches n (landed stop s x) h
     unfolding landed stepsIn someEnds pairsIn
-    keeps-landed x h d i b =
+    keeps-landed x h i d b =
         ends-stops stop _ (λ e. ends-done (record { reason = by-width (double-finite d) e (bracket-going b); narrows = bracket-narrows b; told = (bracket-in b x i, d) }))
         (λ e. bracket-value (bracket-on b refl refl (rw e refl)) x d (λ p t c. keeps-arrived p _ (answered-fit t d i) c))
 
     keeps-pulled : (x : Float) (h : List Event) → Double x → Inv (suc n) s h → Reaches n (pulledIn stop s x) h
     unfolding pulledIn stepsIn someEnds pairsIn
-    keeps-pulled x h d b = let w = bracket-pulled b x d in ends-pulled (landed stop s) _ _ x (keeps-landed _ _ (w .0) (w .1) (bracket-on b refl refl refl))
+    keeps-pulled x h d b = let w = bracket-pulled b x d in ends-pulled (landed stop s) _ _ x (keeps-landed _ _ (search w) (search w) (bracket-on b refl refl refl))
 
     keeps-turn : (h : List Event) → Inv (suc n) s h → Reaches n (turnFrom stop s) h
     unfolding turnFrom stepsIn someEnds pairsIn
