@@ -58,26 +58,26 @@ module _ (a : List Float) (stop : StopRule) (start : Float) where
     keeps-landed : (x x1 : Float) (h : List Event) → finite x1 ≡ true → Stands (suc (left false)) h → Reaches left (landed stop x x1) h
     unfolding landed someEnds stepsIn markIn
     keeps-landed x x1 h z i =
-        ends-stops stop _ (λ e. ends-done (record { reason = by-width z e (plain-going i); unmarked = i .unmarked }))
+        ends-stops stop _ (λ e. ends-done (record { reason = by-width z e (plain-going i); unmarked = i .unmarked; not-six = refl }))
         (λ e. ends-steps _ (plain-next (plain-on i refl (rw e refl) refl), z))
 
     keeps-onward : (v : ValueAndDerivative) (h : List Event) → Stands (suc (left false)) h → Reaches left (onward stop v) h
     unfolding onward someEnds stepsIn markIn
     keeps-onward v h i =
-        ends-offered _ _ (λ c. record { reason = of-candidate c (plain-going i); unmarked = i .unmarked })
+        ends-offered _ _ (λ c. record { reason = of-candidate c (plain-going i); unmarked = i .unmarked; not-six = refl })
         (λ c. keeps-landed _ _ _ c (plain-on i refl (rw c refl) refl))
 
     keeps-later : (v : ValueAndDerivative) (h : List Event) → True a (v .value) → Slope a (v .derivative) → Stands (suc (left false)) h → Reaches left (laterAt stop v) h
     unfolding laterAt someEnds stepsIn markIn
     keeps-later v h t d i =
-        ends-stops stop _ (λ e. ends-done (record { reason = by-value t e (plain-going i); unmarked = i .unmarked }))
-        (λ e. ends-stops stop _ (λ f. ends-done (record { reason = of-flatness d f (plain-going (plain-on i refl (rw e refl) refl)); unmarked = i .unmarked }))
+        ends-stops stop _ (λ e. ends-done (record { reason = by-value t e (plain-going i); unmarked = i .unmarked; not-six = refl }))
+        (λ e. ends-stops stop _ (λ f. ends-done (record { reason = of-flatness d f (plain-going (plain-on i refl (rw e refl) refl)); unmarked = i .unmarked; not-six = refl }))
         (λ f. keeps-onward v _ (plain-on i refl (rw (e, f) refl) refl)))
 
   keeps-turn : (n : ℕ) (s : Spot) (h : List Event) → Inv (suc n) s h → Reaches (λ nudged. n) (turnFrom stop s) h
   unfolding turnFrom someEnds stepsIn markIn
   keeps-turn n s h (i, z) =
-      ends-both _ (λ e. record { reason = of-derivative z (not-answered-both a _ e) (plain-going i); unmarked = i .unmarked })
+      ends-both _ (λ e. record { reason = of-derivative z (not-answered-both a _ e) (plain-going i); unmarked = i .unmarked; not-six = refl })
       (λ v e. keeps-later (λ nudged. n) v _ (answered-both a _ z v e .is-true) (rw (← both-computed a (s .x) v e) (derivative-at (s .x))) (plain-on i refl (rw z refl) refl))
 
   -- ---- the opening
@@ -93,13 +93,13 @@ module _ (a : List Float) (stop : StopRule) (start : Float) where
   keeps-nudge : (x : Float) (h : List Event) → Stands (suc (left true)) h → Reaches left (nudge x) h
   unfolding nudge nudgedTo someEnds stepsIn markIn
   keeps-nudge x h i =
-      ends-offered _ _ (λ c. record { reason = of-candidate c (plain-going i); unmarked = i .unmarked })
+      ends-offered _ _ (λ c. record { reason = of-candidate c (plain-going i); unmarked = i .unmarked; not-six = refl })
       (λ c. ends-steps _ (plain-next (plain-on i refl (rw c refl) refl), c))
 
   keeps-first : (v : ValueAndDerivative) (h : List Event) → True a (v .value) → valueAndDerivative a start ≡ v → Opens h → Reaches left (firstAt stop v) h
   unfolding firstAt someEnds stepsIn markIn
   keeps-first v h t e i =
-      ends-stops stop _ (λ f. ends-done (record { reason = by-value t f (plain-going i); unmarked = i .unmarked }))
+      ends-stops stop _ (λ f. ends-done (record { reason = by-value t f (plain-going i); unmarked = i .unmarked; not-six = refl }))
       (λ f.
       let flat : foundAt stop (v .derivative) ≡ true → Reaches left (nudge (v .value .x)) (noted (tested (found (v .value)) false) ∷ h) = λ g. keeps-nudge _ _ (plain-on (known true (rw e g)) refl (rw f refl) refl) in
       let steep : foundAt stop (v .derivative) ≡ false → Reaches left (onward stop v) (noted (tested (found (v .value)) false) ∷ h) = λ g. keeps-onward left v _ (plain-on (known false (rw e g)) refl (rw f refl) refl) in
@@ -111,7 +111,7 @@ module _ (a : List Float) (stop : StopRule) (start : Float) where
   keeps-opening : finite start ≡ true → Reaches left (opening stop start) []
   unfolding opening someEnds stepsIn markIn
   keeps-opening z =
-      ends-both _ (λ n. record { reason = of-derivative z (not-answered-both a _ n) (plain-going nothing); unmarked = refl })
+      ends-both _ (λ n. record { reason = of-derivative z (not-answered-both a _ n) (plain-going nothing); unmarked = refl; not-six = refl })
       (λ v n. keeps-first v _ (answered-both a _ z v n .is-true) (both-computed a _ v n) (plain-on nothing refl (rw z refl) refl))
     where
       all : (b : Bool) → 0 + suc (left b) ≡ cond b (max 2 (stop .limit)) (max 1 (stop .limit))

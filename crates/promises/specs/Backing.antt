@@ -5,14 +5,14 @@ use mathlib.Core.Bool.{Bool, true, false, cond, true≢false}
 use mathlib.Core.Logic.{_↔_, _⊎_, inl, inr}
 use mathlib.Core.List.{List, [], _∷_}
 use mathlib.Core.Path.{_≡_, refl, ap, sym, _∙_, subst}
-use lib.Dec.{T, ltb}
+use lib.Dec.{T, ltb, eqb}
 use lib.ListN.{length}
 use lib.Ieee.{Float, binary64, fits, lt, sub}
 use lib.Ieee.Scale.{finite}
 use Rattle.doubles.specs.Doubles.{above, absolute, sameSign, orderOf}
 use Rattle.doubles.specs.Number.{Double}
 use Rattle.doubles.specs.Pairs.{Inside, BetweenZ, inside-order}
-use Rattle.numerical.specs.Answers.{refusedAtOnce}
+use Rattle.numerical.specs.Answers.{kindOf, refusedAtOnce}
 use Rattle.numerical.specs.declared.Answer.{Answer}
 use Rattle.numerical.specs.declared.Answer.the-variants.{ByValue, ByWidth, Refused}
 use Rattle.numerical.specs.declared.Outcome.{Outcome}
@@ -28,7 +28,7 @@ use Rattle.polynom.specs.Polynom.{value, evaluated, evaluatedBoth}
 use Rattle.numerical.specs.declared.Interval.{Interval}
 use Rattle.searching.specs.BracketLaws.{ends-fit, newest-backed, newest-in}
 use Rattle.searching.specs.Brackets.{pairsIn, Backed, Narrows, no-pair, first-pair, next-pair, Told, Bracket}
-use Rattle.searching.specs.Reasons.{Reason, by-value, by-width, by-middle, of-signs, of-flatness, of-limit, of-value, of-derivative, of-candidate, of-middle}
+use Rattle.searching.specs.Reasons.{Unmarked, Reason, by-value, by-width, by-middle, of-signs, of-flatness, of-limit, of-value, of-derivative, of-candidate, of-middle}
 use Rattle.searching.specs.Keeps.{Ends}
 use Rattle.brent.specs.Brent.{brent}
 use Rattle.brent.specs.BrentKeeps.{brent-ends}
@@ -317,24 +317,35 @@ module _ (a : List Float) (m : Method) (eps : Float) (limit : ℕ) where
       home zero h e = absurd (omega arith)
       home (suc n) h e = ap (λ (o : Outcome). o .answer) (refused-now n e)
 
--- ---- the mark
+-- ---- secant and Newton: no mark and no 6
 
 mark-at : (a : List Float) (g : Prog Answer) → answerOf a g .progress .mark ≡ markIn (history (oracle a) g)
 unfolding counted
 mark-at a g = ap (λ (p : Progress). p .mark) (tallies-are-counts a g)
 
--- a call that 1 to 5 refuse has mark 0 too
+abbrev PlainlyOf : Outcome → Type 0
+PlainlyOf o = (o .progress .mark ≡ 0) × ¬ (o .answer ≡ Refused 6)
+
+-- a call that 1 to 5 refuse has mark 0 too, and is not refused with 6
 module _ (a : List Float) (m : Method) (eps : Float) (limit : ℕ) where
-  unmarked-at : (allFinite (startsOf m) ≡ true → answerOf a (programOf (ruleOf eps limit) m) .progress .mark ≡ 0) → answer a m eps limit .progress .mark ≡ 0
-  unmarked-at f = ap (λ (o : Outcome). o .progress .mark) (answer-is a m eps limit) ∙ go (atOnce a m eps limit) refl
+  plain-at :
+      (allFinite (startsOf m) ≡ true → (most : ℕ) × Unmarked a (ruleOf eps limit) most (answerOf a (programOf (ruleOf eps limit) m) .answer) (history (oracle a) (programOf (ruleOf eps limit) m))) →
+      PlainlyOf (answer a m eps limit)
+  plain-at f = subst PlainlyOf (sym (answer-is a m eps limit)) (go (atOnce a m eps limit) refl)
     where
-      go : (k : ℕ) → atOnce a m eps limit ≡ k → byNumber a m eps limit k .progress .mark ≡ 0
-      go zero z = f (passed a m eps limit z .starts-finite)
-      go (suc k) z = refl
+      six : {x : Answer} → eqb (kindOf x) 16 ≡ false → ¬ (x ≡ Refused 6)
+      six n e = true≢false (subst (λ (y : Answer). eqb (kindOf y) 16 ≡ false) e n)
 
-pub unmarked-secant : (a : List Float) (first second eps : Float) (limit : ℕ) → answer a (Secant first second) eps limit .progress .mark ≡ 0
-unmarked-secant a first second eps limit =
-    unmarked-at a (Secant first second) eps limit (λ e. let w = two-finite first second e in mark-at a _ ∙ at-answer a _ (secant-ends a (ruleOf eps limit) first second (w .0) (w .1)) .unmarked)
+      same : {k : ℕ} → _≡_ {A = Answer} (Refused k) (Refused 6) → k ≡ 6
+      same e = cc
 
-pub unmarked-newton : (a : List Float) (start eps : Float) (limit : ℕ) → answer a (NewtonRaphson start) eps limit .progress .mark ≡ 0
-unmarked-newton a start eps limit = unmarked-at a (NewtonRaphson start) eps limit (λ e. mark-at a _ ∙ at-answer a _ (newton-raphson-ends a (ruleOf eps limit) start (one-finite start [] e .0)) .unmarked)
+      go : (k : ℕ) → atOnce a m eps limit ≡ k → PlainlyOf (byNumber a m eps limit k)
+      go zero z = let u = f (passed a m eps limit z .starts-finite) .1 in (mark-at a _ ∙ u .unmarked, six (u .not-six))
+      go (suc k) z = (refl, λ e. absurd (omega (arith, z, at-most-five a m eps limit, same e)))
+
+pub plain-secant : (a : List Float) (first second eps : Float) (limit : ℕ) → PlainlyOf (answer a (Secant first second) eps limit)
+plain-secant a first second eps limit =
+    plain-at a (Secant first second) eps limit (λ e. let w = two-finite first second e in (_, at-answer a _ (secant-ends a (ruleOf eps limit) first second (w .0) (w .1))))
+
+pub plain-newton : (a : List Float) (start eps : Float) (limit : ℕ) → PlainlyOf (answer a (NewtonRaphson start) eps limit)
+plain-newton a start eps limit = plain-at a (NewtonRaphson start) eps limit (λ e. (_, at-answer a _ (newton-raphson-ends a (ruleOf eps limit) start (one-finite start [] e .0))))

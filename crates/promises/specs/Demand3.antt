@@ -21,7 +21,7 @@ use Rattle.roots.specs.Calls.{startsOf, answer}
 use Rattle.roots.specs.declared.Method.{Method}
 use Rattle.roots.specs.declared.Method.the-variants.{Secant, NewtonRaphson}
 use Rattle.promises.specs.Searches.{ruleOf, historyOf, atOnce, Held, mostValues, mostDerivatives, mostSteps, Bracketed, Truthful, NestedByOrder}
-use Rattle.promises.specs.Backing.{counts-of, values-within, derivatives-within, reason-of, value-true, width-true, pairs-of, pairs-nested, root-by-value, root-by-width, six-told, never-seven, history-truthful, unmarked-secant, unmarked-newton}
+use Rattle.promises.specs.Backing.{counts-of, values-within, derivatives-within, reason-of, value-true, width-true, pairs-of, pairs-nested, root-by-value, root-by-width, six-told, never-seven, history-truthful, plain-secant, plain-newton}
 
 module _ (a : List Float) (m : Method) (eps : Float) (limit : ℕ) (passes : atOnce a m eps limit ≡ 0) where
   -- the steps, values and derivatives reported, and the mark, are those of the definition's history
@@ -119,7 +119,14 @@ evaluations a m eps limit = history-truthful a m eps limit
 
 -- secant and Newton always have mark 0
 pub secant-unmarked : (a : List Float) (first second eps : Float) (limit : ℕ) → answer a (Secant first second) eps limit .progress .mark ≡ 0
-secant-unmarked a first second eps limit = unmarked-secant a first second eps limit
+secant-unmarked a first second eps limit = plain-secant a first second eps limit .0
 
 pub newton-unmarked : (a : List Float) (start eps : Float) (limit : ℕ) → answer a (NewtonRaphson start) eps limit .progress .mark ≡ 0
-newton-unmarked a start eps limit = unmarked-newton a start eps limit
+newton-unmarked a start eps limit = plain-newton a start eps limit .0
+
+-- and are never refused with 6: they make no sign test
+pub secant-no-six : (a : List Float) (first second eps : Float) (limit : ℕ) → ¬ (answer a (Secant first second) eps limit .answer ≡ Refused 6)
+secant-no-six a first second eps limit = plain-secant a first second eps limit .1
+
+pub newton-no-six : (a : List Float) (start eps : Float) (limit : ℕ) → ¬ (answer a (NewtonRaphson start) eps limit .answer ≡ Refused 6)
+newton-no-six a start eps limit = plain-newton a start eps limit .1

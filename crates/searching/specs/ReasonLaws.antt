@@ -107,4 +107,4 @@ pub standing-limit : {a : List Float} {stop : StopRule} {most : ℕ} {h : List E
 standing-limit {h = h} i = of-limit {h = h} (omega (arith, i .steps)) (i .undecided)
 
 pub plain-limit : {a : List Float} {stop : StopRule} {most : ℕ} {h : List Event} → Plain stop most zero h → Unmarked a stop most (Refused 8) h
-plain-limit i = record { reason = standing-limit (i .standing); unmarked = i .unmarked }
+plain-limit i = record { reason = standing-limit (i .standing); unmarked = i .unmarked; not-six = refl }

@@ -4,9 +4,11 @@ use mathlib.Core.Bool.{Bool, true, false, cond, not}
 use mathlib.Core.List.{List, [], _∷_, List·Memᴰ}
 use mathlib.Core.Logic.{_⊎_}
 use mathlib.Core.Path.{_≡_}
+use lib.Dec.{eqb}
 use lib.Ieee.{Float, binary64, sub}
 use lib.Ieee.Scale.{finite}
 use Rattle.doubles.specs.Doubles.{sameSign, outside, pulled}
+use Rattle.numerical.specs.Answers.{kindOf}
 use Rattle.numerical.specs.declared.Answer.{Answer}
 use Rattle.numerical.specs.declared.Answer.the-variants.{ByValue, ByWidth, Refused}
 use Rattle.numerical.specs.declared.Sample.{Sample}
@@ -140,10 +142,11 @@ pub record Standing (stop : StopRule) (most n : ℕ) (h : List Event) : Type 0 w
   pub steps : stepsIn h + n ≡ most
   pub undecided : someEnds stop h ≡ false
 
--- the promises of a method that has no added rule, at its end: the reason, and no mark
+-- the promises of a method with no sign test and no added rule, at its end: the reason, no mark, and another answer than 6
 pub record Unmarked (a : List Float) (stop : StopRule) (most : ℕ) (answer : Answer) (h : List Event) : Type 0 where
   pub reason : Reason a stop most answer h
   pub unmarked : markIn h ≡ 0
+  pub not-six : eqb (kindOf answer) 16 ≡ false
 
 -- where such a method stands with n steps left
 pub record Plain (stop : StopRule) (most n : ℕ) (h : List Event) : Type 0 where

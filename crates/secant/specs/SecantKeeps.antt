@@ -41,19 +41,19 @@ module _ (a : List Float) (stop : StopRule) where
 
   keeps-second : (p q : Sample) (h : List Event) → True a p → True a q → Opens h → Reaches (turnsOf stop) (secondAt stop p q) h
   unfolding secondAt someEnds stepsIn markIn
-  keeps-second p q h t u i = ends-stops stop _ (λ e. ends-done (record { reason = by-value u e (open-going i); unmarked = i .unmarked })) (λ e. ends-done (plain-on i refl (rw e refl) refl, t, u))
+  keeps-second p q h t u i = ends-stops stop _ (λ e. ends-done (record { reason = by-value u e (open-going i); unmarked = i .unmarked; not-six = refl })) (λ e. ends-done (plain-on i refl (rw e refl) refl, t, u))
 
   keeps-first : (x : Float) (p : Sample) (h : List Event) → finite x ≡ true → True a p → Opens h → Reaches (turnsOf stop) (firstAt stop x p) h
   unfolding firstAt someEnds stepsIn markIn
   keeps-first x p h z t i =
-      ends-stops stop _ (λ e. ends-done (record { reason = by-value t e (open-going i); unmarked = i .unmarked }))
-      (λ e. ends-value _ (λ n. record { reason = of-value z (not-answered a _ n) (open-going (plain-on i refl (rw e refl) refl)); unmarked = i .unmarked })
+      ends-stops stop _ (λ e. ends-done (record { reason = by-value t e (open-going i); unmarked = i .unmarked; not-six = refl }))
+      (λ e. ends-value _ (λ n. record { reason = of-value z (not-answered a _ n) (open-going (plain-on i refl (rw e refl) refl)); unmarked = i .unmarked; not-six = refl })
       (λ q n. keeps-second p q _ t (answered a _ z q n .is-true) (plain-on i refl (rw (z, e) refl) refl)))
 
   keeps-opening : (x y : Float) → finite x ≡ true → finite y ≡ true → Reaches (turnsOf stop) (opening stop x y) []
   unfolding opening someEnds stepsIn markIn
   keeps-opening x y z w =
-      ends-value _ (λ n. record { reason = of-value z (not-answered a _ n) (open-going nothing); unmarked = refl })
+      ends-value _ (λ n. record { reason = of-value z (not-answered a _ n) (open-going nothing); unmarked = refl; not-six = refl })
       (λ p n. keeps-first y p _ w (answered a _ z p n .is-true) (plain-on nothing refl (rw z refl) refl))
     where
       nothing : Opens []
@@ -64,21 +64,21 @@ module _ (a : List Float) (stop : StopRule) where
     keeps-arrived : (p : Sample) (h : List Event) → True a p → Inv (suc n) s h → Reaches n (arrived stop s p) h
     unfolding arrived someEnds stepsIn markIn
     keeps-arrived p h t i =
-        ends-stops stop _ (λ e. ends-done (record { reason = by-value t e (plain-going (i .0)); unmarked = i .0 .unmarked }))
+        ends-stops stop _ (λ e. ends-done (record { reason = by-value t e (plain-going (i .0)); unmarked = i .0 .unmarked; not-six = refl }))
         (λ e. ends-steps _ (plain-next (plain-on (i .0) refl (rw e refl) refl), i .2, t))
 
     keeps-landed : (x : Float) (h : List Event) → finite x ≡ true → Inv (suc n) s h → Reaches n (landed stop s x) h
     unfolding landed someEnds stepsIn markIn
     keeps-landed x h z i =
-        ends-stops stop _ (λ e. ends-done (record { reason = by-width z e (plain-going (i .0)); unmarked = i .0 .unmarked }))
-        (λ e. ends-value _ (λ v. record { reason = of-value z (not-answered a _ v) (plain-going (plain-on (i .0) refl (rw e refl) refl)); unmarked = i .0 .unmarked })
+        ends-stops stop _ (λ e. ends-done (record { reason = by-width z e (plain-going (i .0)); unmarked = i .0 .unmarked; not-six = refl }))
+        (λ e. ends-value _ (λ v. record { reason = of-value z (not-answered a _ v) (plain-going (plain-on (i .0) refl (rw e refl) refl)); unmarked = i .0 .unmarked; not-six = refl })
         (λ p v. keeps-arrived p _ (answered a _ z p v .is-true) (plain-on (i .0) refl (rw (z, e) refl) refl, i .1, i .2)))
 
     keeps-turn : (h : List Event) → Inv (suc n) s h → Reaches n (turnFrom stop s) h
     unfolding turnFrom someEnds stepsIn markIn
     keeps-turn h i =
-        ends-stops stop _ (λ e. ends-done (record { reason = of-flatness (difference-of (i .1) (i .2)) e (plain-going (i .0)); unmarked = i .0 .unmarked }))
-        (λ e. ends-offered _ _ (λ c. record { reason = of-candidate c (plain-going (plain-on (i .0) refl (rw e refl) refl)); unmarked = i .0 .unmarked })
+        ends-stops stop _ (λ e. ends-done (record { reason = of-flatness (difference-of (i .1) (i .2)) e (plain-going (i .0)); unmarked = i .0 .unmarked; not-six = refl }))
+        (λ e. ends-offered _ _ (λ c. record { reason = of-candidate c (plain-going (plain-on (i .0) refl (rw e refl) refl)); unmarked = i .0 .unmarked; not-six = refl })
         (λ c. keeps-landed _ _ c (plain-on (i .0) refl (rw (c, e) refl) refl, i .1, i .2)))
 
   -- every secant search from finite points ends with its reason, and unmarked
