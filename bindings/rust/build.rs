@@ -1,4 +1,4 @@
-// Finds the proved archive: in the folder that ROOTS_ARCHIVE_DIR names, or built by the toolchain's `rt`.
+// Finds the proved archive: in the folder that ROOTS_ARCHIVE_DIR names, or built by tools/compile-archives with the toolchain's `rt`.
 use std::path::{Path, PathBuf};
 use std::process::Command;
 
@@ -17,16 +17,17 @@ fn main() {
     println!("cargo:rustc-link-lib=static=roots_c");
 }
 
-// `rt staticlib roots_c` at the repository's top proves the library and writes the archive.
+// tools/compile-archives proves the library and writes an archive for each processor.
 fn built() -> PathBuf {
     let top = Path::new(env!("CARGO_MANIFEST_DIR")).join("../..");
-    let folder = top.join("target/staticlib");
+    let processor = std::env::var("CARGO_CFG_TARGET_ARCH").expect("cargo names the processor");
+    let folder = top.join("target/archive").join(processor);
     if folder.join("libroots_c.a").exists() {
         return folder;
     }
-    match Command::new("rt").arg("staticlib").arg("roots_c").current_dir(&top).status() {
+    match Command::new(top.join("tools/compile-archives")).status() {
         Ok(status) if status.success() => folder,
-        Ok(status) => panic!("rt staticlib roots_c ended with {status}"),
-        Err(fault) => panic!("rt could not be run ({fault}): set ROOTS_ARCHIVE_DIR to the folder that holds libroots_c.a"),
+        Ok(status) => panic!("tools/compile-archives ended with {status}"),
+        Err(fault) => panic!("tools/compile-archives could not be run ({fault}): set ROOTS_ARCHIVE_DIR to the folder that holds libroots_c.a"),
     }
 }
