@@ -16,8 +16,6 @@ use Rattle.numerical.specs.declared.Sample.{Sample}
 use Rattle.simple_convergency.specs.Stop.{turnsOf}
 use Rattle.simple_convergency.specs.declared.StopRule.{StopRule}
 use Rattle.searching.specs.Programs.{oracle, play, tallied}
-use Rattle.searching.specs.Histories.{history}
-use Rattle.searching.specs.ProgramLaws.{tallies-are-counts, counted}
 use Rattle.searching.specs.Bounds.{More, Within, within-done, within-test, within-stops, within-ruled, within-pulled, within-value, within-offered, within-bracketed, within-narrows, within-less, within-searches, answer-within}
 use Rattle.searching.specs.LoopLaws.{Turns, runOf, opened-ended, opened-next, Shown, shown-end, shown-go, seen-once}
 use Rattle.brent.specs.Brent.{arrange, opened, secondAt, firstAt, opening, nextOf, keptA, keptB, arrived, landed, pulledIn, stepWith, stepFrom, turnFrom, brentProgram, brent, seen}
@@ -87,11 +85,6 @@ module _ (cs : List Float) (stop : StopRule) (from to : Float) {t : To} {p q : P
   from-state = opened-next (turns stop) _ _ cs f e
 
 module _ (a : List Float) (stop : StopRule) (from to : Float) where
-  -- the tallies and the mark reported are those of the history
-  pub brent-counts : brent a stop from to .progress ≡ counted (history (oracle a) (brentProgram stop from to))
-  unfolding brent
-  brent-counts = tallies-are-counts a _
-
   most : More (2 + turnsOf stop * 2) (0 + turnsOf stop * 0) (0 + turnsOf stop * 1) fresh (brent a stop from to .progress)
   unfolding brent brentProgram
   most = answer-within a (within-searches 2 0 0 2 0 1 (turnsOf stop) (within-opening stop from to) (λ r. le-refl (turnsOf stop)) (within-turn stop))

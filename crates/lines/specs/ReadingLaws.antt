@@ -65,14 +65,6 @@ some-starts m = go (eqb m 4)
     go true = omega arith
     go false = omega arith
 
-few-starts : (m : ℕ) → startsOf m ≤ 2
-unfolding startsOf
-few-starts m = go (eqb m 4)
-  where
-    go : (b : Bool) → cond b 1 2 ≤ 2
-    go true = omega arith
-    go false = omega arith
-
 module _ (m n : ℕ) (a : List Float) (k : ℕ) (t : List ℕ) where
   -- only the first n + starts + 1 doubles count
   first-ones : k ≡ doubles m n → withLimit m n a t ≡ withLimit m n (take k a) t

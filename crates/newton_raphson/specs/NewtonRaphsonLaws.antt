@@ -14,8 +14,6 @@ use Rattle.numerical.specs.declared.Progress.{Progress}
 use Rattle.simple_convergency.specs.declared.StopRule.{StopRule}
 use Rattle.polynom.specs.declared.ValueAndDerivative.{ValueAndDerivative}
 use Rattle.searching.specs.Programs.{Turned, ended, next, oracle, play, tallied}
-use Rattle.searching.specs.Histories.{history}
-use Rattle.searching.specs.ProgramLaws.{tallies-are-counts, counted}
 use Rattle.searching.specs.Bounds.{Within, More, within-done, within-test, within-stops, within-both, within-offered, within-steps, within-less, within-searches, answer-within}
 use Rattle.searching.specs.LoopLaws.{Turns, runOf, opened-ended, opened-next, Shown, shown-end, shown-go, seen-once}
 use Rattle.newton_raphson.specs.NewtonRaphson.{landed, onward, laterAt, turnFrom, nudgedTo, nudge, firstAt, opening, turnsLeft, newtonProgram, newtonRaphson, seen}
@@ -80,11 +78,6 @@ pub left-few : (stop : StopRule) {most : ℕ} (r : Turned Spot) → stop .limit 
 left-few stop r h e = omega (arith, left-most stop r)
 
 module _ (a : List Float) (stop : StopRule) (start : Float) where
-  -- what is reported is what the history holds
-  pub newton-raphson-counts : newtonRaphson a stop start .progress ≡ counted (history (oracle a) (newtonProgram stop start))
-  unfolding newtonRaphson
-  newton-raphson-counts = tallies-are-counts a _
-
   -- what the law of bounds says of the whole search
   more : let m = max 2 (stop .limit) - 1 in More (1 + m * 1) (1 + m * 1) (1 + m * 1) fresh (newtonRaphson a stop start .progress)
   unfolding newtonRaphson newtonProgram

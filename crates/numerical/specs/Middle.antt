@@ -1,5 +1,5 @@
 -- A point somewhere in the middle of an interval, as mod.rs has it, with signs tested in place of their product. Definitions only.
-use mathlib.Core.Bool.{Bool, true, false, cond, not, _&&_}
+use mathlib.Core.Bool.{Bool, false, cond}
 use lib.Ieee.{Float, binary64, ofBits, add, sub, mul, div, neg, lt, ne}
 use Rattle.doubles.specs.Doubles.{sameSign}
 use Rattle.numerical.specs.declared.Interval.{Interval}

@@ -1,6 +1,6 @@
 -- How a run's tallies and its mark count what it does. Definitions only.
 use Prim.Native.Nat.{ℕ, _+_, _≤_, _^_}
-use mathlib.Core.Bool.{Bool, true, false, cond, _&&_}
+use mathlib.Core.Bool.{Bool, cond, _&&_}
 use lib.Dec.{eqb}
 use Rattle.numerical.specs.declared.Progress.{Progress}
 

@@ -1,7 +1,7 @@
 // Samples, intervals, tallies, the mark and the answer of a search.
 ghost use mathlib.Core.Path.{_≡_};
 ghost use Rattle.numerical.specs.Tallies.{fresh, valuedOf, slopedOf, steppedOf, ruledOf, Room};
-ghost use Rattle.numerical.specs.Answers.{kindOf, refusedAtOnce};
+ghost use Rattle.numerical.specs.Answers.{refusedAtOnce};
 ghost use Rattle.numerical.specs.Middle.{atLeast, atMost, crosses, middleOf};
 
 // A point and the computed value there.

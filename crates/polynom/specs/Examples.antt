@@ -1,7 +1,7 @@
 -- Values that the definitions compute: x^2 - 2 at 2, Horner's order told apart, and (a * n) * xn1 from a * (n * xn1).
 use mathlib.Core.Path.{_≡_, refl}
-use mathlib.Core.List.{List, [], _∷_}
-use lib.Ieee.{Float, binary64, ofBits, add, mul}
+use mathlib.Core.List.{[], _∷_}
+use lib.Ieee.{binary64, ofBits, add, mul}
 use Rattle.polynom.specs.Polynom.{sums, value, sumsBoth, valueAndDerivative}
 
 -- [0, -2] at 2 is 2

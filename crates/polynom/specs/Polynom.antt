@@ -1,5 +1,5 @@
 -- The polynomial x^n + a[0]x^(n-1) + .. + a[n-1]: its value and derivative, every sum and product in the Rust's order. Definitions only.
-use mathlib.Core.Bool.{Bool, true, false, cond, _&&_}
+use mathlib.Core.Bool.{cond}
 use mathlib.Core.List.{List, [], _∷_}
 use lib.Ieee.{Float, binary64, ofBits, add, mul}
 use lib.Ieee.Scale.{finite}

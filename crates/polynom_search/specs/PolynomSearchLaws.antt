@@ -15,8 +15,6 @@ use Rattle.numerical.specs.declared.Sample.{Sample}
 use Rattle.simple_convergency.specs.Stop.{turnsOf}
 use Rattle.simple_convergency.specs.declared.StopRule.{StopRule}
 use Rattle.searching.specs.Programs.{rising, oracle, play, tallied}
-use Rattle.searching.specs.Histories.{history}
-use Rattle.searching.specs.ProgramLaws.{tallies-are-counts, counted}
 use Rattle.searching.specs.Bounds.{Within, More, within-done, within-test, within-stops, within-ruled, within-pulled, within-value, within-both, within-offered, within-bracketed, within-narrows, within-less, within-searches, answer-within}
 use Rattle.searching.specs.LoopLaws.{Turns, runOf, opened-ended, opened-next, Shown, shown-end, shown-go, seen-once}
 use Rattle.polynom_search.specs.PolynomSearch.{secondAt, firstAt, ordered, opening, chosen, closer, atMiddle, stepAt, widthAt, pulledIn, atMiddleOf, turnFrom, polynomProgram, polynomSearch, seen}
@@ -75,11 +73,6 @@ module _ (cs : List Float) (stop : StopRule) (a b : Float) {t : To} {p q : Progr
   from-state = opened-next (turns stop) _ _ cs f e
 
 module _ (cs : List Float) (stop : StopRule) (a b : Float) where
-  -- the tallies and the mark reported are those of the history
-  pub polynom-search-counts : polynomSearch cs stop a b .progress ≡ counted (history (oracle cs) (polynomProgram stop a b))
-  unfolding polynomSearch
-  polynom-search-counts = tallies-are-counts cs _
-
   polynom-search-more : More (2 + turnsOf stop * 2) (0 + turnsOf stop * 1) (0 + turnsOf stop * 1) fresh (polynomSearch cs stop a b .progress)
   unfolding polynomSearch polynomProgram
   polynom-search-more =

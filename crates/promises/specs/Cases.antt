@@ -3,16 +3,13 @@ use Prim.Native.Nat.{ℕ, zero, suc, _+_}
 use mathlib.Core.Bool.{Bool, true, false, cond, _&&_}
 use mathlib.Core.List.{List, [], _∷_}
 use mathlib.Core.Path.{_≡_, refl}
-use lib.Dec.{eqb, leb, ltb}
-use lib.ListN.{length}
+use lib.Dec.{eqb}
 use lib.Ieee.{Float, binary64, ofBits, toBits, lt, le, eq, ne, neg, sub, add, mul, div}
-use lib.Ieee.Scale.{finite}
 use Rattle.doubles.specs.Doubles.{absolute, sameSign, oppositeSign, outside, pulled}
 use Rattle.numerical.specs.Answers.{kindOf, numbersOf}
 use Rattle.numerical.specs.Tallies.{markAfter}
 use Rattle.numerical.specs.Middle.{atLeast, atMost, crosses, middleOf}
 use Rattle.numerical.specs.declared.Outcome.{Outcome}
-use Rattle.numerical.specs.declared.Progress.{Progress}
 use Rattle.simple_convergency.specs.Stop.{badEps, checkedOf, foundAt, convergedAt}
 use Rattle.polynom.specs.Polynom.{sums, value, sumsBoth, valueAndDerivative, evaluated, evaluatedBoth}
 use Rattle.searching.specs.Programs.{rising, bind, test, stops, sampled, sampledBoth, valueAt, bothAt, offered, pulledInto, productDeparts, bracketed, stepsTo, narrowsTo, run, searches, play, answerOf}

@@ -1,16 +1,14 @@
 -- Demand 1: any input gets an acceptance or a refusal numbered 1 to 9, nothing else; and 1 to 5 exactly when document 01 says.
-use Prim.Native.Nat.{ℕ, zero, suc, _≤_}
-use native.Mathlib.Omega.{arith}
+use Prim.Native.Nat.{ℕ, suc, _≤_}
 use mathlib.Core.List.{List}
 use mathlib.Core.Logic.{_↔_}
-use mathlib.Core.Path.{_≡_, refl, ap, sym, _∙_}
+use mathlib.Core.Path.{_≡_}
 use lib.Ieee.{Float}
 use Rattle.numerical.specs.Answers.{refusedAtOnce}
 use Rattle.numerical.specs.declared.Answer.the-variants.{Refused}
-use Rattle.numerical.specs.declared.Outcome.{Outcome}
 use Rattle.roots.specs.Calls.{startsOf, answer}
 use Rattle.roots.specs.declared.Method.{Method}
-use Rattle.promises.specs.Searches.{ruleOf, programOf, atOnce, Held}
+use Rattle.promises.specs.Searches.{atOnce, Held}
 use Rattle.promises.specs.Backing.{refused-now, number-range, early-iff}
 
 module _ (a : List Float) (m : Method) (eps : Float) (limit : ℕ) where

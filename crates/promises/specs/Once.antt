@@ -11,16 +11,11 @@ use Rattle.numerical.specs.Answers.{refusedAtOnce}
 use Rattle.numerical.specs.Middle.{crosses, middleOf}
 use Rattle.numerical.specs.Tallies.{fresh, valuedOf, slopedOf, steppedOf, ruledOf}
 use Rattle.numerical.specs.declared.Interval.{Interval}
-use Rattle.numerical.specs.declared.Outcome.{Outcome}
 use Rattle.numerical.specs.declared.Progress.{Progress}
 use Rattle.numerical.specs.declared.Sample.{Sample}
 use Rattle.simple_convergency.specs.Stop.{checkedOf, foundAt, convergedAt, turnsOf}
-use Rattle.simple_convergency.specs.declared.Checked.{Checked}
 use Rattle.simple_convergency.specs.declared.StopRule.{StopRule}
 use Rattle.polynom.specs.Polynom.{value, valueAndDerivative, evaluated, evaluatedBoth}
-use Rattle.polynom.specs.declared.ValueAndDerivative.{ValueAndDerivative}
-use Rattle.polynom.specs.declared.Evaluated.{Evaluated}
-use Rattle.polynom.specs.declared.EvaluatedBoth.{EvaluatedBoth}
 use Rattle.searching.specs.Rules.{placedIn, alikeBy, inOrder}
 use Rattle.brent.specs.Brent.{brent}
 use Rattle.regula_falsi.specs.RegulaFalsi.{regulaFalsi}

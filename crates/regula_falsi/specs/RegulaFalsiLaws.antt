@@ -16,8 +16,6 @@ use Rattle.numerical.specs.declared.Sample.{Sample}
 use Rattle.simple_convergency.specs.Stop.{turnsOf}
 use Rattle.simple_convergency.specs.declared.StopRule.{StopRule}
 use Rattle.searching.specs.Programs.{ruled, log, Turned, test, narrowsTo, rising, oracle, play, tallied}
-use Rattle.searching.specs.Histories.{history}
-use Rattle.searching.specs.ProgramLaws.{tallies-are-counts, counted}
 use Rattle.searching.specs.Bounds.{Within, More, within-done, within-test, within-stops, within-ruled, within-pulled, within-value, within-offered, within-bracketed, within-narrows, within-less, within-searches, answer-within}
 use Rattle.searching.specs.LoopLaws.{Turns, runOf, opened-ended, opened-next, Shown, shown-end, shown-go, seen-once}
 use Rattle.regula_falsi.specs.RegulaFalsi.{secondAt, firstAt, ordered, opening, pairOf, leftReplaced, rightReplaced, replacedOf, departsFrom, departs, arrived, landed, pulledIn, turnFrom, illinoisProgram, regulaFalsi, seen}
@@ -79,11 +77,6 @@ module _ (cs : List Float) (q : Progress) {r : Turned Illinois × Progress} {f d
   by-right t e g = came ∙ rw (e, g, ← signs, t) refl
 
 module _ (cs : List Float) (stop : StopRule) (a b : Float) where
-  -- the tallies and the mark reported are those of the history
-  pub regula-falsi-counts : regulaFalsi cs stop a b .progress ≡ counted (history (oracle cs) (illinoisProgram stop a b))
-  unfolding regulaFalsi
-  regula-falsi-counts = tallies-are-counts cs _
-
   within-search : More (2 + turnsOf stop * 1) (0 + turnsOf stop * 0) (0 + turnsOf stop * 1) fresh (regulaFalsi cs stop a b .progress)
   unfolding regulaFalsi illinoisProgram
   within-search = answer-within cs (within-searches 2 0 0 1 0 1 (turnsOf stop) (within-opening stop a b) (λ r. le-refl (turnsOf stop)) (within-turn stop))

@@ -1,14 +1,13 @@
 -- How much a program asks for and how many steps it takes at the most, whatever it is answered.
-use Prim.Native.Nat.{ℕ, zero, suc, _+_, _*_, _≤_, _<_}
+use Prim.Native.Nat.{ℕ, zero, suc, _+_, _*_, _≤_}
 use native.Mathlib.Omega.{arith}
 use native.Mathlib.Nat.{suc-mul, mul-le-mul-right}
 use mathlib.Core.Bool.{Bool, true, false}
 use mathlib.Core.List.{List}
-use mathlib.Core.Path.{_≡_, refl}
 use lib.Ieee.{Float}
 use lib.Ieee.Scale.{finite}
 use Rattle.doubles.specs.Doubles.{outside, pulled}
-use Rattle.numerical.specs.Tallies.{fresh, valuedOf, slopedOf, steppedOf, ruledOf, Room}
+use Rattle.numerical.specs.Tallies.{fresh, valuedOf, slopedOf, ruledOf, Room}
 use Rattle.numerical.specs.declared.Answer.{Answer}
 use Rattle.numerical.specs.declared.Interval.{Interval}
 use Rattle.numerical.specs.declared.Progress.{Progress}
@@ -19,7 +18,7 @@ use Rattle.polynom.specs.declared.Evaluated.{Evaluated}
 use Rattle.polynom.specs.declared.Evaluated.the-variants.{At, NotFinite}
 use Rattle.polynom.specs.declared.EvaluatedBoth.{EvaluatedBoth}
 use Rattle.polynom.specs.declared.EvaluatedBoth.the-variants.{Both, NotBothFinite}
-use Rattle.searching.specs.Programs.{Test, Note, tested, candidate, ruled, paired, stepped, Prog, done, ask, askBoth, log, Turned, ended, next, bind, test, stops, holds, sampled, sampledBoth, valueAt, bothAt, offered, pulledInto, bracketed, productDeparts, stepsTo, narrowsTo, run, searches, Oracle, oracle, play, tallied, answerOf}
+use Rattle.searching.specs.Programs.{Test, ruled, Prog, done, log, Turned, ended, next, bind, test, stops, holds, sampled, sampledBoth, valueAt, bothAt, offered, pulledInto, bracketed, productDeparts, stepsTo, narrowsTo, run, searches, Oracle, oracle, play, tallied, answerOf}
 use Rattle.searching.specs.ProgramLaws.{play-bind}
 
 -- at most v values, d derivatives and s steps more

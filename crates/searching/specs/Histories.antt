@@ -1,9 +1,8 @@
 -- The history of a play, newest first, and what is counted in it. Definitions only.
 use Prim.Native.Nat.{ℕ, _+_}
-use mathlib.Core.Bool.{Bool, true, false}
 use mathlib.Core.List.{List, [], _∷_}
 use Rattle.numerical.specs.Tallies.{markAfter}
-use Rattle.searching.specs.Programs.{Test, Note, tested, candidate, ruled, paired, stepped, Prog, Oracle, Event, asked, askedBoth, noted, play}
+use Rattle.searching.specs.Programs.{tested, candidate, ruled, paired, stepped, Prog, Oracle, Event, asked, askedBoth, noted, play}
 
 abbrev pub listed : Event → List Event → List Event
 listed e h = e ∷ h

@@ -12,7 +12,7 @@ use Rattle.numerical.specs.declared.Answer.{Answer}
 use Rattle.numerical.specs.declared.Answer.the-variants.{Refused}
 use Rattle.numerical.specs.declared.Outcome.{Outcome}
 use Rattle.numerical.specs.declared.Progress.{Progress}
-use Rattle.searching.specs.Programs.{Prog, done, Turned, ended, next, bind, run, searches, Oracle, oracle, play, tallied, answerOf}
+use Rattle.searching.specs.Programs.{Prog, Turned, ended, next, bind, run, searches, oracle, play, tallied, answerOf}
 use Rattle.searching.specs.ProgramLaws.{play-bind, run-ended}
 use Rattle.searching.specs.Bounds.{Within, within-room}
 

@@ -1,13 +1,11 @@
 -- Laws of every program: one after another, ended runs, and that the tallies and the mark are those of the history.
-use Prim.Native.Nat.{ℕ, zero, suc, _+_}
-use mathlib.Core.Bool.{Bool, true, false}
+use Prim.Native.Nat.{ℕ, zero, suc}
 use mathlib.Core.List.{List, [], _∷_}
 use mathlib.Core.Path.{_≡_, refl, ap, sym, _∙_}
 use Rattle.numerical.specs.Tallies.{fresh}
 use Rattle.numerical.specs.declared.Answer.{Answer}
-use Rattle.numerical.specs.declared.Outcome.{Outcome}
 use Rattle.numerical.specs.declared.Progress.{Progress}
-use Rattle.searching.specs.Programs.{Test, Note, tested, candidate, ruled, paired, stepped, Prog, done, ask, askBoth, log, Turned, ended, next, bind, run, Oracle, oracle, Event, asked, askedBoth, noted, play, tallied, answerOf}
+use Rattle.searching.specs.Programs.{tested, candidate, ruled, paired, stepped, Prog, done, ask, askBoth, log, Turned, ended, bind, run, Oracle, oracle, Event, asked, askedBoth, noted, play, tallied, answerOf}
 use Rattle.searching.specs.Histories.{listed, history, valuesIn, derivativesIn, stepsIn, markIn}
 use lib.Ieee.{Float}
 

@@ -1,7 +1,7 @@
 -- A search method is a program that asks for values, notes what it does, and ends with an answer. Definitions only.
 use Prim.Native.Nat.{ℕ, zero, suc}
-use mathlib.Core.Bool.{Bool, true, false, cond, not}
-use mathlib.Core.List.{List, [], _∷_}
+use mathlib.Core.Bool.{Bool, true, false, not}
+use mathlib.Core.List.{List}
 use lib.Ieee.{Float, binary64, mul, lt}
 use lib.Ieee.Scale.{finite}
 use Rattle.doubles.specs.Doubles.{above, sameSign, outside, pulled}

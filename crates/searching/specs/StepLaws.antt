@@ -6,8 +6,7 @@ use mathlib.Core.Path.{_≡_, refl, _∙_, ap, sym}
 use lib.Ieee.{Float, lt}
 use lib.Ieee.Scale.{finite}
 use Rattle.doubles.specs.Doubles.{outside, pulled, sameSign}
-use Rattle.numerical.specs.Tallies.{fresh, valuedOf, slopedOf, steppedOf, ruledOf}
-use Rattle.numerical.specs.declared.Answer.{Answer}
+use Rattle.numerical.specs.Tallies.{valuedOf, slopedOf, steppedOf, ruledOf}
 use Rattle.numerical.specs.declared.Answer.the-variants.{Refused}
 use Rattle.numerical.specs.declared.Interval.{Interval}
 use Rattle.numerical.specs.declared.Progress.{Progress}
@@ -19,7 +18,7 @@ use Rattle.polynom.specs.declared.Evaluated.{Evaluated}
 use Rattle.polynom.specs.declared.Evaluated.the-variants.{At, NotFinite}
 use Rattle.polynom.specs.declared.EvaluatedBoth.{EvaluatedBoth}
 use Rattle.polynom.specs.declared.EvaluatedBoth.the-variants.{Both, NotBothFinite}
-use Rattle.searching.specs.Programs.{Test, Note, ruled, Prog, done, log, Turned, ended, next, test, holds, stops, sampled, sampledBoth, valueAt, bothAt, offered, pulledInto, rising, productDeparts, bracketed, stepsTo, narrowsTo, oracle, play, tallied}
+use Rattle.searching.specs.Programs.{Test, ruled, Prog, done, log, Turned, ended, next, test, holds, stops, sampled, sampledBoth, valueAt, bothAt, offered, pulledInto, rising, productDeparts, bracketed, stepsTo, narrowsTo, oracle, play, tallied}
 use Rattle.searching.specs.Rules.{placedIn, alikeBy, inOrder}
 use Rattle.searching.specs.declared.Placed.{Placed}
 use Rattle.searching.specs.declared.Decided.{Decided}
@@ -181,9 +180,5 @@ module _ {S : Type 0} (cs : List Float) (p : Progress) {r : Turned S × Progress
       w ≡ alikeBy a b p → w .holds ≡ true → r ≡ (ended (Refused 6), w .progress) → r ≡ play tallied (oracle cs) (bracketed stop a b s) p
   by-no-bracket-decided stop a b s e f g = by-no-bracket stop a b s refl (ap (λ (w : Decided). w .progress) e) (ap (λ (w : Decided). w .holds) e) f g
 
--- a run begins with nothing done
-pub by-fresh : {A : Type 0} (cs : List Float) {q : Progress} {r : A × Progress} (g : Prog A) → q ≡ fresh → r ≡ play tallied (oracle cs) g q → r ≡ play tallied (oracle cs) g fresh
-by-fresh cs g e k = k ∙ rw e refl
-
--- all of them, for `search`; by-fresh is listed where a run begins
+-- all of them, for `search`
 pub ruleset steps = (by-true, by-false, by-held, by-missed, by-rule, by-pulled, by-placed, by-alike, by-value, by-no-value, by-value-at, by-no-value-at, by-both, by-not-both, by-offer, by-no-offer, by-rising, by-next, by-step, by-step-to, by-narrow, by-narrow-to, by-bracket, by-bracket-to, by-no-bracket, by-bracket-decided, by-bracket-decided-to, by-no-bracket-decided, by-done)

@@ -3,7 +3,7 @@ use Prim.Native.Nat.{ℕ, _+_, _*_, _≤_}
 use native.Mathlib.Omega.{arith}
 use native.Mathlib.Nat.{mul-one, mul-zero, le-refl}
 use mathlib.Core.List.{List}
-use mathlib.Core.Path.{_≡_, refl, _∙_}
+use mathlib.Core.Path.{_≡_, refl}
 use lib.Ieee.{Float}
 use Rattle.numerical.specs.Answers.{outcome}
 use Rattle.numerical.specs.Tallies.{fresh}
@@ -13,8 +13,6 @@ use Rattle.numerical.specs.declared.Progress.{Progress}
 use Rattle.simple_convergency.specs.Stop.{turnsOf}
 use Rattle.simple_convergency.specs.declared.StopRule.{StopRule}
 use Rattle.searching.specs.Programs.{oracle, play, tallied}
-use Rattle.searching.specs.Histories.{history}
-use Rattle.searching.specs.ProgramLaws.{tallies-are-counts, counted}
 use Rattle.searching.specs.Bounds.{Within, More, within-done, within-stops, within-value, within-offered, within-steps, within-less, within-searches, answer-within}
 use Rattle.searching.specs.LoopLaws.{Turns, runOf, opened-ended, opened-next, Shown, shown-end, shown-go, seen-once}
 use Rattle.secant.specs.Secant.{secondAt, firstAt, opening, arrived, landed, turnFrom, secantProgram, secant, seen}
@@ -59,11 +57,6 @@ module _ (cs : List Float) (stop : StopRule) (first second : Float) {t : To} {p 
   from-state = opened-next (turns stop) _ _ cs f e
 
 module _ (a : List Float) (stop : StopRule) (first second : Float) where
-  -- what is reported is what the history holds
-  pub secant-counts : secant a stop first second .progress ≡ counted (history (oracle a) (secantProgram stop first second))
-  unfolding secant
-  secant-counts = tallies-are-counts a _
-
   -- what the law of bounds says of the whole search
   more : More (2 + turnsOf stop * 1) (0 + turnsOf stop * 0) (0 + turnsOf stop * 1) fresh (secant a stop first second .progress)
   unfolding secant secantProgram

@@ -1,6 +1,6 @@
 -- The stop rule: its constants, which rules there are, and its tests. Definitions only.
 use Prim.Native.Nat.{ℕ, max}
-use mathlib.Core.Bool.{Bool, true, false, cond}
+use mathlib.Core.Bool.{Bool, true, cond}
 use lib.Dec.{ltb}
 use lib.Ieee.{Float, binary64, ofBits, lt, sub}
 use lib.Ieee.Scale.{finite}

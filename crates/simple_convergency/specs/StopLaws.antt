@@ -5,7 +5,7 @@ use mathlib.Core.Bool.{Bool, true, false, cond, true≢false}
 use mathlib.Core.Path.{_≡_, refl}
 use lib.Dec.{T, ltb}
 use lib.IntN.{negsuc}
-use lib.Ieee.{Float, fin, binary64, ofBits, lt, isNan}
+use lib.Ieee.{Float, fin, ofBits, lt, isNan}
 use lib.Ieee.Bits.{is-true}
 use lib.Ieee.Scale.{finite}
 use borrow.Author.Tests.{ltb-false}
@@ -13,7 +13,6 @@ use Rattle.doubles.specs.Compare.{finite-num, lt-le-trans, no-lt-le}
 use Rattle.doubles.specs.Doubles.{nought, above}
 use Rattle.simple_convergency.specs.Stop.{leastEps, greatestLimit, badEps, checkedOf}
 use Rattle.simple_convergency.specs.declared.StopRule.{StopRule}
-use Rattle.simple_convergency.specs.declared.Checked.{Checked}
 use Rattle.simple_convergency.specs.declared.Checked.the-variants.{Rule, Refused}
 
 -- the least eps is 1 * 2 ^ -300

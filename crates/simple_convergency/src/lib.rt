@@ -1,6 +1,6 @@
 // The stop rule: how close is close enough, and how many steps a search may take.
 ghost use mathlib.Core.Path.{_≡_};
-ghost use Rattle.simple_convergency.specs.Stop.{leastEps, badEps, checkedOf, foundAt, convergedAt, turnsOf};
+ghost use Rattle.simple_convergency.specs.Stop.{badEps, checkedOf, foundAt, convergedAt, turnsOf};
 
 // Precision for both axes, and the greatest number of steps.
 pub struct StopRule {

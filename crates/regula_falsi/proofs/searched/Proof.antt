@@ -1,7 +1,6 @@
 use Rattle.searching.specs.LoopLaws.{Loops, runOf, loops-first, loops-next, loops-room, loops-ended, loops-out}
 use Rattle.regula_falsi.specs.RegulaFalsiLaws.{turns}
 use Rattle.regula_falsi.specs.RegulaFalsi.{turnFrom}
-use mathlib.Core.Path.{refl}
 use Prim.Native.Nat.{_-_}
 use native.Mathlib.Omega.{arith}
 use borrow.Author.Needs.{needs}
