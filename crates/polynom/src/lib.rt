@@ -20,13 +20,18 @@ pub enum EvaluatedBoth {
     NotBothFinite,
 }
 
-// The value at x, summed from the last coefficient to the first.
+// The value at x, summed from the last coefficient to the first. The first turn stands before the loop, where the compiler drops what 1.0 multiplies.
 pub fn value(a: &[f64], x: f64) -> f64
     ensures { λ r. ⌜ r ≡ value (now (a .entry)) x ⌝ }
 {
     let mut result = 0.0;
     let mut xn = 1.0;
     let mut i = a.len();
+    if i > 0 {
+        i -= 1;
+        result = 0.0 + a[i] * 1.0;
+        xn = 1.0 * x;
+    }
     while i > 0 {
         i -= 1;
         result = result + a[i] * xn;
@@ -35,7 +40,7 @@ pub fn value(a: &[f64], x: f64) -> f64
     result + xn
 }
 
-// The value, with the derivative beside it. The next power is begun before this one is used up, which is faster.
+// The value, with the derivative beside it, in the same way. The next power is begun before this one is used up, which is faster.
 pub fn value_and_derivative(a: &[f64], x: f64) -> ValueAndDerivative
     ensures { λ r. ⌜ r ≡ valueAndDerivative (now (a .entry)) x ⌝ }
 {
@@ -45,6 +50,15 @@ pub fn value_and_derivative(a: &[f64], x: f64) -> ValueAndDerivative
     let mut derivative = 0.0;
     let mut n = 0.0;
     let mut i = a.len();
+    if i > 0 {
+        i -= 1;
+        let c = a[i];
+        derivative = 0.0 + c * 0.0 * 0.0;
+        value = 0.0 + c * 1.0;
+        xn1 = 1.0;
+        xn = 1.0 * x;
+        n = 0.0 + 1.0;
+    }
     while i > 0 {
         i -= 1;
         let c = a[i];
