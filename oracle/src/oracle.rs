@@ -7,6 +7,7 @@ mod call;
 mod run;
 mod watch;
 
+use std::cell::Cell;
 use std::io::{BufRead, Write};
 use watch::Test;
 
@@ -39,12 +40,29 @@ fn answer(line: &str, trace: bool) -> String {
     text
 }
 
+// A plain eps brings its own limit: how often Newton evaluates x^2 + 1, from 1/2, before it gives up.
+fn plainly() -> String {
+    let (values, derivatives) = (Cell::new(0), Cell::new(0));
+    let counted = |count: &Cell<usize>, y: f64| {
+        count.set(count.get() + 1);
+        y
+    };
+    let mut eps = 1.0 / 1024.0;
+    let result = roots::find_root_newton_raphson(0.5, |x| counted(&values, x * x + 1.0), |x| counted(&derivatives, 2.0 * x), &mut eps);
+    let told = result.map_or_else(|error| format!("err {}", run::number(error)), |root| format!("ok {root}"));
+    format!("{told} {} {}", values.get(), derivatives.get())
+}
+
 fn main() -> std::io::Result<()> {
     let trace = match std::env::args().skip(1).collect::<Vec<_>>().as_slice() {
         [] => false,
         [option] if option == "--trace" => true,
+        [option] if option == "--plain" => {
+            println!("{}", plainly());
+            return Ok(());
+        }
         _ => {
-            eprintln!("usage: oracle [--trace] < calls");
+            eprintln!("usage: oracle [--trace] < calls, or oracle --plain");
             std::process::exit(2);
         }
     };

@@ -14,7 +14,7 @@ pub struct Run {
     pub kept: Option<Vec<Test>>,
 }
 
-fn number(error: SearchError) -> u8 {
+pub fn number(error: SearchError) -> u8 {
     match error {
         SearchError::NoBracketing => 6,
         SearchError::ZeroDerivative => 7,

@@ -1,4 +1,4 @@
--- W1 to W13 of document 01, and its limits, as one statement each over a list of calls with their answers.
+-- W1 to W13 of document 01, and its limits with the Rust's for a plain eps, as one statement each over a list of calls with their answers.
 use Prim.Native.Nat.{ℕ, zero, suc, _+_}
 use mathlib.Core.Bool.{Bool, true, false, cond, _&&_}
 use mathlib.Core.List.{List, [], _∷_}
@@ -18,7 +18,7 @@ use Rattle.regula_falsi.specs.RegulaFalsi as rf
 use Rattle.secant.specs.Secant as sec
 use Rattle.newton_raphson.specs.NewtonRaphson as nr
 use Rattle.polynom_search.specs.PolynomSearch as ps
-use Rattle.roots.specs.Calls.{badCount, allFinite, answer}
+use Rattle.roots.specs.Calls.{badCount, allFinite, answer, plainLimit}
 use Rattle.roots.specs.declared.Method.{Method}
 use Rattle.roots.specs.declared.Method.the-variants.{Brent, RegulaFalsi, Secant, NewtonRaphson, Polynom}
 
@@ -155,6 +155,9 @@ fromNought = RegulaFalsi (double d0) (double d1)
 abbrev pub least : ℕ
 least = 0x2d30_0000_0000_0000
 
+abbrev pub half : ℕ
+half = 0x3fe0_0000_0000_0000
+
 abbrev pub halfLeast : ℕ
 halfLeast = 0x2d20_0000_0000_0000
 
@@ -168,6 +171,8 @@ limits =
     ∷ refused (noughts 1) fromNought halfLeast 9 4 0 0 0
     ∷ accepted (noughts 1) fromNought part1024 400 0 (d0 ∷ d0 ∷ []) 0 1 0
     ∷ refused (noughts 1) fromNought part1024 401 5 0 0 0
+    -- with a plain eps the Rust gives up on x^2 + 1 after 30 values and derivatives
+    ∷ refused (d0 ∷ d1 ∷ []) (NewtonRaphson (double half)) part1024 plainLimit 8 30 30 30
     ∷ []
 
 -- and so does every call of this list
