@@ -32,7 +32,7 @@ module _ (a : List Float) (m : Method) (eps : Float) (limit : ℕ) (passes : atO
   pub values-bound : answer a m eps limit .progress .tally .values .0 ≤ mostValues m (ruleOf eps limit)
   values-bound = values-within a m eps limit passes
 
-  -- nor do the derivatives
+  -- nor do the derivatives exceed theirs
   pub derivatives-bound : answer a m eps limit .progress .tally .derivatives .0 ≤ mostDerivatives m (ruleOf eps limit)
   derivatives-bound = derivatives-within a m eps limit passes
 
@@ -98,10 +98,11 @@ module _ (a : List Float) (m : Method) (eps : Float) (limit : ℕ) (passes : atO
       pub nested : NestedByOrder u v (pairsIn (historyOf a m eps limit))
       nested = pairs-nested a m eps limit passes doubles u v starts
 
-      -- any root returned lies between the starts by the order number, ends included
+      -- any root returned by value lies between the starts by the order number, ends included
       pub root-between-by-value : (root y : Float) → answer a m eps limit .answer ≡ ByValue root y → BetweenZ (orderOf u) (orderOf v) (orderOf root)
       root-between-by-value root y e = root-by-value a m eps limit passes doubles u v starts root y e
 
+      -- any root returned by width lies between them too, and so does Brent's c, which may lie outside of the last pair
       pub root-between-by-width : (root p q : Float) → answer a m eps limit .answer ≡ ByWidth root p q → BetweenZ (orderOf u) (orderOf v) (orderOf root)
       root-between-by-width root p q e = root-by-width a m eps limit passes doubles u v starts root p q e
 
@@ -117,16 +118,18 @@ module _ (a : List Float) (m : Method) (eps : Float) (limit : ℕ) (passes : atO
 pub evaluations : (a : List Float) (m : Method) (eps : Float) (limit : ℕ) → Truthful a (historyOf a m eps limit)
 evaluations a m eps limit = history-truthful a m eps limit
 
--- secant and Newton always have mark 0
+-- secant always has mark 0
 pub secant-unmarked : (a : List Float) (first second eps : Float) (limit : ℕ) → answer a (Secant first second) eps limit .progress .mark ≡ 0
 secant-unmarked a first second eps limit = plain-secant a first second eps limit .0
 
+-- so has Newton
 pub newton-unmarked : (a : List Float) (start eps : Float) (limit : ℕ) → answer a (NewtonRaphson start) eps limit .progress .mark ≡ 0
 newton-unmarked a start eps limit = plain-newton a start eps limit .0
 
--- and are never refused with 6: they make no sign test
+-- secant, which makes no sign test, is never refused with 6
 pub secant-no-six : (a : List Float) (first second eps : Float) (limit : ℕ) → ¬ (answer a (Secant first second) eps limit .answer ≡ Refused 6)
 secant-no-six a first second eps limit = plain-secant a first second eps limit .1
 
+-- nor is Newton
 pub newton-no-six : (a : List Float) (start eps : Float) (limit : ℕ) → ¬ (answer a (NewtonRaphson start) eps limit .answer ≡ Refused 6)
 newton-no-six a start eps limit = plain-newton a start eps limit .1
