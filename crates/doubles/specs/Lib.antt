@@ -5,4 +5,5 @@ pub mod Number
 pub mod Pairs
 pub mod Signs
 pub mod Products
+pub mod Sizes
 pub mod Examples

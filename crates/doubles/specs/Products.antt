@@ -18,7 +18,7 @@ use Rattle.doubles.specs.Doubles.{nought, above, below, sameSign, opposi
 use Rattle.doubles.specs.Compare.{of-true, same-test}
 
 -- whether x is a number on the side s of zero: below it where s is true, and above it otherwise
-abbrev stands : Bool → Float → Bool
+abbrev pub stands : Bool → Float → Bool
 stands s nan = false
 stands s (inf t) = Bool·beq s t
 stands s (fin t m e) = Bool·beq s t && ltb 0 m
@@ -40,7 +40,7 @@ above-is (inf false) = rw nought-is refl
 above-is (fin true m e) = rw nought-is refl
 above-is (fin false m e) = rw (nought-is, zero-mul (down e), mul-one (m * up e)) (same-size m e)
 
-below-is : (x : Float) → below x ≡ stands true x
+pub below-is : (x : Float) → below x ≡ stands true x
 unfolding lt
 below-is nan = refl
 below-is (inf true) = rw nought-is refl
@@ -50,7 +50,7 @@ below-is (fin false m e) = rw (nought-is, zero-mul (down e)) (le-ltb (m * up e *
 
 -- ---- what is rounded keeps its sign, and zero stays zero
 
-beq-eq : (s t : Bool) → T (Bool·beq s t) → s ≡ t
+pub beq-eq : (s t : Bool) → T (Bool·beq s t) → s ≡ t
 beq-eq true true h = refl
 beq-eq true false h = absurd h
 beq-eq false true h = absurd h
@@ -68,7 +68,7 @@ units-side f u s q k = go (ltb (q * 2 ^ k) (2 ^ (low f + suc (emax f))))
     go true h = valued-side u (odd (suc (prec f)) s q k (low f)) s (q * 2 ^ k) (2 ^ low f) (odd-sign (suc (prec f)) s q k (low f)) h
     go false h = beq-eq u s h
 
-round-side : (f : Format) (u s : Bool) (a c : ℕ) → T (stands u (round f s a c)) → u ≡ s
+pub round-side : (f : Format) (u s : Bool) (a c : ℕ) → T (stands u (round f s a c)) → u ≡ s
 unfolding round
 round-side f u s a c h = units-side f u s _ _ h
 
@@ -90,11 +90,11 @@ record Factors (u : Bool) (x y : Float) : Type 0 where
   first-stands : T (stands first x)
   second-stands : T (stands second y)
 
-itself : (s : Bool) → T (Bool·beq s s)
+pub itself : (s : Bool) → T (Bool·beq s s)
 itself true = tt
 itself false = tt
 
-finite-stands : (s : Bool) (m : ℕ) (e : ℤ) → 0 < m → T (stands s (fin s m e))
+pub finite-stands : (s : Bool) (m : ℕ) (e : ℤ) → 0 < m → T (stands s (fin s m e))
 finite-stands s m e h = and-i (Bool·beq s s) (ltb 0 m) (itself s) (lt→ltb 0 m h)
 
 -- a number times an infinity
@@ -123,17 +123,24 @@ factors f u (fin s m e) (fin t n d) h =
 
 -- ---- what a product tells
 
-not-above : (x : Float) → T (stands true x) → above x ≡ false
+pub not-above : (x : Float) → T (stands true x) → above x ≡ false
 not-above x h = above-is x ∙ go x h
   where
     go : (x : Float) → T (stands true x) → stands false x ≡ false
     go (inf true) k = refl
     go (fin true m e) k = refl
 
-is-above : (x : Float) → T (stands false x) → above x ≡ true
+pub not-below : (x : Float) → T (stands false x) → below x ≡ false
+not-below x h = below-is x ∙ go x h
+  where
+    go : (x : Float) → T (stands false x) → stands true x ≡ false
+    go (inf false) k = refl
+    go (fin false m e) k = refl
+
+pub is-above : (x : Float) → T (stands false x) → above x ≡ true
 is-above x h = above-is x ∙ is-true (stands false x) h
 
-is-below : (x : Float) → T (stands true x) → below x ≡ true
+pub is-below : (x : Float) → T (stands true x) → below x ≡ true
 is-below x h = below-is x ∙ is-true (stands true x) h
 
 -- Values whose product is above zero have the same sign.

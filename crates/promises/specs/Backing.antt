@@ -6,6 +6,7 @@ use mathlib.Core.Logic.{_↔_, _⊎_, inl, inr}
 use mathlib.Core.List.{List, [], _∷_}
 use mathlib.Core.Path.{_≡_, refl, ap, sym, _∙_, subst}
 use lib.Dec.{T, ltb, eqb}
+use borrow.Author.Tests.{ltb-false}
 use lib.ListN.{length}
 use lib.Ieee.{Float, binary64, fits, lt, sub}
 use lib.Ieee.Scale.{finite}
@@ -36,6 +37,7 @@ use Rattle.brent.specs.BrentLaws.{brent-values, brent-derivatives}
 use Rattle.regula_falsi.specs.RegulaFalsi.{regulaFalsi}
 use Rattle.regula_falsi.specs.RegulaFalsiKeeps.{regula-falsi-ends}
 use Rattle.regula_falsi.specs.RegulaFalsiLaws.{regula-falsi-values, regula-falsi-derivatives}
+use Rattle.regula_falsi.specs.RegulaFalsiMarks.{ZeroOrTwo, regula-falsi-marks}
 use Rattle.secant.specs.Secant.{secant}
 use Rattle.secant.specs.SecantKeeps.{secant-ends}
 use Rattle.secant.specs.SecantLaws.{secant-values, secant-derivatives}
@@ -82,23 +84,32 @@ module _ (a : List Float) (m : Method) (eps : Float) (limit : ℕ) where
   -- a call that passes 1 to 5
   pub record Passed : Type 0 where
     pub starts-finite : allFinite (startsOf m) ≡ true
+    pub good-eps : badEps eps ≡ false
     pub eps-above : above eps ≡ true
+    pub in-range : limit ≤ greatestLimit
     pub is-answer : answer a m eps limit ≡ answerOf a (programOf (ruleOf eps limit) m)
 
   pub passed : atOnce a m eps limit ≡ 0 → Passed
   unfolding atOnce
-  passed z = record { starts-finite = told .0; eps-above = good-eps-above eps (told .1); is-answer = answer-is ∙ ap byNumber z }
+  passed z =
+      record {
+        starts-finite = told .0;
+        good-eps = told .1;
+        eps-above = good-eps-above eps (told .1);
+        in-range = ltb-false greatestLimit limit (told .2);
+        is-answer = answer-is ∙ ap byNumber z;
+      }
     where
-      told : (allFinite (startsOf m) ≡ true) × (badEps eps ≡ false)
+      told : (allFinite (startsOf m) ≡ true) × (badEps eps ≡ false) × (ltb greatestLimit limit ≡ false)
       told = go (badCount (length a)) (allFinite a) (allFinite (startsOf m)) (badEps eps) (ltb greatestLimit limit) z
         where
-          go : (b c d e f : Bool) → _≡_ {A = ℕ} (cond b 1 (cond c (cond d (cond e 4 (cond f 5 0)) 3) 2)) 0 → (d ≡ true) × (e ≡ false)
+          go : (b c d e f : Bool) → _≡_ {A = ℕ} (cond b 1 (cond c (cond d (cond e 4 (cond f 5 0)) 3) 2)) 0 → (d ≡ true) × (e ≡ false) × (f ≡ false)
           go true c d e f z = absurd (omega arith)
           go false false d e f z = absurd (omega arith)
           go false true false e f z = absurd (omega arith)
           go false true true true f z = absurd (omega arith)
           go false true true false true z = absurd (omega arith)
-          go false true true false false z = (refl, refl)
+          go false true true false false z = (refl, refl, refl)
 
 -- what holds where a program ends holds of its answer and its history
 pub at-answer : (a : List Float) {Q : Answer → List Event → Type 0} (g : Prog Answer) → Ends (oracle a) Q g [] → Q (answerOf a g .answer) (history (oracle a) g)
@@ -349,3 +360,15 @@ plain-secant a first second eps limit =
 
 pub plain-newton : (a : List Float) (start eps : Float) (limit : ℕ) → PlainlyOf (answer a (NewtonRaphson start) eps limit)
 plain-newton a start eps limit = plain-at a (NewtonRaphson start) eps limit (λ e. (_, at-answer a _ (newton-raphson-ends a (ruleOf eps limit) start (one-finite start [] e .0))))
+
+-- ---- Illinois: mark 0 or 2
+
+pub two-marks : (a : List Float) (from to eps : Float) (limit : ℕ) → ZeroOrTwo (answer a (RegulaFalsi from to) eps limit .progress .mark)
+two-marks a from to eps limit = subst (λ (o : Outcome). ZeroOrTwo (o .progress .mark)) (sym (answer-is a m eps limit)) (go (atOnce a m eps limit) refl)
+  where
+    m : Method
+    m = RegulaFalsi from to
+
+    go : (k : ℕ) → atOnce a m eps limit ≡ k → ZeroOrTwo (byNumber a m eps limit k .progress .mark)
+    go zero z = let p = passed a m eps limit z in subst ZeroOrTwo (sym (mark-at a _)) (at-answer a _ (regula-falsi-marks a (ruleOf eps limit) (p .good-eps) (p .in-range) from to))
+    go (suc k) z = inl refl

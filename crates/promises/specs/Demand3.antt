@@ -2,7 +2,7 @@
 use Prim.Native.Nat.{ℕ, _≤_}
 use mathlib.Core.Bool.{Bool, true}
 use mathlib.Core.List.{List}
-use mathlib.Core.Logic.{_↔_}
+use mathlib.Core.Logic.{_↔_, _⊎_}
 use mathlib.Core.Path.{_≡_}
 use lib.Ieee.{Float, binary64, lt, sub}
 use lib.Ieee.Scale.{finite}
@@ -19,9 +19,9 @@ use Rattle.searching.specs.Reasons.{Occurs, endsRun, Calls, SignsHeld, FlatHeld
 use Rattle.searching.specs.ExactLaws.{decided, tests-honest, points-finite, exactly-by-value, exactly-by-width, exactly-six, exactly-seven, exactly-eight, exactly-nine}
 use Rattle.roots.specs.Calls.{startsOf, answer}
 use Rattle.roots.specs.declared.Method.{Method}
-use Rattle.roots.specs.declared.Method.the-variants.{Secant, NewtonRaphson}
+use Rattle.roots.specs.declared.Method.the-variants.{RegulaFalsi, Secant, NewtonRaphson}
 use Rattle.promises.specs.Searches.{ruleOf, historyOf, atOnce, Held, mostValues, mostDerivatives, mostSteps, Bracketed, Truthful, NestedByOrder}
-use Rattle.promises.specs.Backing.{counts-of, values-within, derivatives-within, reason-of, value-true, width-true, pairs-of, pairs-nested, root-by-value, root-by-width, six-told, never-seven, history-truthful, plain-secant, plain-newton}
+use Rattle.promises.specs.Backing.{counts-of, values-within, derivatives-within, reason-of, value-true, width-true, pairs-of, pairs-nested, root-by-value, root-by-width, six-told, never-seven, history-truthful, plain-secant, plain-newton, two-marks}
 
 module _ (a : List Float) (m : Method) (eps : Float) (limit : ℕ) (passes : atOnce a m eps limit ≡ 0) where
   -- the steps, values and derivatives reported, and the mark, are those of the definition's history
@@ -125,6 +125,10 @@ secant-unmarked a first second eps limit = plain-secant a first second eps limit
 -- so has Newton
 pub newton-unmarked : (a : List Float) (start eps : Float) (limit : ℕ) → answer a (NewtonRaphson start) eps limit .progress .mark ≡ 0
 newton-unmarked a start eps limit = plain-newton a start eps limit .0
+
+-- Illinois has mark 0 or 2 and never 1: its values and weights are too large for their product to round to zero
+pub illinois-marks : (a : List Float) (from to eps : Float) (limit : ℕ) → (answer a (RegulaFalsi from to) eps limit .progress .mark ≡ 0) ⊎ (answer a (RegulaFalsi from to) eps limit .progress .mark ≡ 2)
+illinois-marks a from to eps limit = two-marks a from to eps limit
 
 -- secant, which makes no sign test, is never refused with 6
 pub secant-no-six : (a : List Float) (first second eps : Float) (limit : ℕ) → ¬ (answer a (Secant first second) eps limit .answer ≡ Refused 6)

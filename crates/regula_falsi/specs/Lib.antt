@@ -2,3 +2,4 @@
 pub mod RegulaFalsi
 pub mod RegulaFalsiLaws
 pub mod RegulaFalsiKeeps
+pub mod RegulaFalsiMarks

@@ -40,7 +40,7 @@ left-at NoEdge e = refl
 left-at EdgeX2 e = refl
 
 -- the values of the next pair are not alike either
-replaced-signs : (s : Illinois) (p : Sample) → sameSign (s .left .at .y) (s .right .at .y) ≡ false → sameSign (replacedOf s p .left .at .y) (replacedOf s p .right .at .y) ≡ false
+pub replaced-signs : (s : Illinois) (p : Sample) → sameSign (s .left .at .y) (s .right .at .y) ≡ false → sameSign (replacedOf s p .left .at .y) (replacedOf s p .right .at .y) ≡ false
 unfolding replacedOf
 replaced-signs s p n = go (sameSign (p .y) (s .left .at .y)) refl
   where

@@ -35,6 +35,15 @@ module _ (a : List Float) (x : Float) where
       go true e = let s : sampleOf x (value a x) ≡ p = cc in ap (λ (q : Sample). q .x) (sym s)
       go false e = absurd (let z : _≡_ {A = ℕ} 0 1 = cc in omega arith)
 
+  -- and its value is finite
+  pub answered-finite : (p : Sample) → evaluated a x ≡ At p → finite (p .y) ≡ true
+  unfolding evaluated
+  answered-finite p e = go (finite (value a x)) refl e
+    where
+      go : (b : Bool) → finite (value a x) ≡ b → cond b (At (sampleOf x (value a x))) NotFinite ≡ At p → finite (p .y) ≡ true
+      go true f e = let s : sampleOf x (value a x) ≡ p = cc in ap (λ (q : Sample). finite (q .y)) (sym s) ∙ f
+      go false f e = absurd (let z : _≡_ {A = ℕ} 0 1 = cc in omega arith)
+
   pub answered : finite x ≡ true → (p : Sample) → evaluated a x ≡ At p → Answered a x p
   unfolding evaluated
   answered g p e = go (finite (value a x)) refl e

@@ -3,15 +3,16 @@ use Prim.Native.Nat.{ℕ, _≤_}
 use native.Mathlib.Omega.{arith}
 use mathlib.Core.Bool.{Bool, true, false, cond, true≢false}
 use mathlib.Core.Path.{_≡_, refl}
-use lib.Dec.{T, ltb}
+use lib.Dec.{T, ltb, T-not}
 use lib.IntN.{negsuc}
-use lib.Ieee.{Float, fin, ofBits, lt, isNan}
+use lib.Ieee.{Float, fin, ofBits, lt, le, isNan}
 use lib.Ieee.Bits.{is-true}
 use lib.Ieee.Scale.{finite}
 use borrow.Author.Tests.{ltb-false}
-use Rattle.doubles.specs.Compare.{finite-num, lt-le-trans, no-lt-le}
-use Rattle.doubles.specs.Doubles.{nought, above}
-use Rattle.simple_convergency.specs.Stop.{leastEps, greatestLimit, badEps, checkedOf}
+use Rattle.doubles.specs.Compare.{of-true, finite-num, lt-le-trans, no-lt-le}
+use Rattle.doubles.specs.Doubles.{nought, absolute, above}
+use Rattle.doubles.specs.Sizes.{atLeast, not-small}
+use Rattle.simple_convergency.specs.Stop.{leastEps, greatestLimit, badEps, checkedOf, foundAt}
 use Rattle.simple_convergency.specs.declared.StopRule.{StopRule}
 use Rattle.simple_convergency.specs.declared.Checked.the-variants.{Rule, Refused}
 
@@ -36,14 +37,25 @@ passed eps limit stop e = go (badEps eps) (ltb greatestLimit limit) refl refl e
     go false true p q e = absurd (let z : _≡_ {A = ℕ} 0 1 = cc in omega arith)
     go false false p q e = record { same-eps = cc; same-limit = cc; good-eps = p; in-range = ltb-false greatestLimit limit q }
 
--- an eps that passed is above zero
-pub good-eps-above : (eps : Float) → badEps eps ≡ false → above eps ≡ true
-unfolding badEps lt ofBits isNan
-good-eps-above eps e = go (finite eps) refl e
+-- an eps that passed is not below the least
+pub least-below : (eps : Float) → badEps eps ≡ false → T (le leastEps eps)
+unfolding badEps isNan ofBits
+least-below eps e = go (finite eps) refl e
   where
-    positive : T (lt nought leastEps)
-    positive = tt
-
-    go : (b : Bool) → finite eps ≡ b → cond b (lt eps leastEps) true ≡ false → above eps ≡ true
-    go true f e = is-true (lt nought eps) (lt-le-trans nought leastEps eps positive (no-lt-le leastEps eps tt (finite-num eps (rw f tt)) (λ t. rw e at t)))
+    go : (b : Bool) → finite eps ≡ b → cond b (lt eps leastEps) true ≡ false → T (le leastEps eps)
+    go true f e = no-lt-le leastEps eps tt (finite-num eps (rw f tt)) (λ t. rw e at t)
     go false f e = absurd (true≢false e)
+
+-- it is above zero
+pub good-eps-above : (eps : Float) → badEps eps ≡ false → above eps ≡ true
+unfolding lt ofBits
+good-eps-above eps e = is-true (lt nought eps) (lt-le-trans nought leastEps eps tt (least-below eps e))
+
+-- a finite value that is not found is 2 ^ -300 or more in size
+pub not-found-size : (stop : StopRule) (y : Float) → badEps (stop .eps) ≡ false → finite y ≡ true → foundAt stop y ≡ false → T (atLeast 300 y)
+unfolding foundAt
+not-found-size stop y g f n = not-small 299 y (of-true (finite y) f) (rw least-eps-value at (less (lt (absolute y) leastEps) (λ t. T-not (lt (absolute y) (stop .eps)) (rw n tt) (lt-le-trans (absolute y) leastEps (stop .eps) t (least-below (stop .eps) g)))))
+  where
+    less : (b : Bool) → (T b → ⊥) → b ≡ false
+    less true h = absurd (h tt)
+    less false h = refl
