@@ -1,6 +1,6 @@
 -- How small a double may be: what halving and multiplying leave of its size, and that a product of doubles that are not too small tells their signs. Assumes nothing.
 use Prim.Native.Nat.{ℕ, zero, suc, _+_, _-_, _*_, _^_, _≤_, _<_}
-use native.Mathlib.Nat.{one-mul, mul-one, mul-pos, mul-le-mul, mul-mul-mul-comm, mul-comm, le-of-eq, le-trans, lt-irrefl, zero-mul}
+use native.Mathlib.Nat.{one-mul, mul-pos, mul-le-mul, mul-mul-mul-comm, mul-comm, le-of-eq, le-trans, lt-irrefl, zero-mul}
 use native.Mathlib.Omega.{arith}
 use mathlib.Core.Bool.{Bool, true, false, cond, Bool·beq}
 use mathlib.Core.Path.{_≡_, refl, ap, sym, _∙_, subst}

@@ -1,8 +1,8 @@
 -- The Illinois search only has marks 0 and 2: its values and halved weights are never so small that a product of them rounds to zero.
-use Prim.Native.Nat.{ℕ, suc, _+_, _≤_, max}
+use Prim.Native.Nat.{ℕ, suc, _+_, _≤_}
 use native.Mathlib.Omega.{arith}
 use mathlib.Core.Bool.{Bool, true, false, cond, _&&_, Bool·beq, true≢false}
-use mathlib.Core.List.{List, [], _∷_}
+use mathlib.Core.List.{List, []}
 use mathlib.Core.Logic.{_⊎_, inl, inr}
 use mathlib.Core.Path.{_≡_, refl, sym, _∙_}
 use lib.Dec.{T, eqb}
@@ -14,7 +14,7 @@ use Rattle.doubles.specs.Sizes.{atLeast, half-size, half-stands, sided, same-si
 use Rattle.numerical.specs.Tallies.{markAfter}
 use Rattle.numerical.specs.declared.Answer.{Answer}
 use Rattle.numerical.specs.declared.Sample.{Sample}
-use Rattle.simple_convergency.specs.Stop.{badEps, foundAt, turnsOf}
+use Rattle.simple_convergency.specs.Stop.{badEps, turnsOf}
 use Rattle.simple_convergency.specs.StopLaws.{not-found-size}
 use Rattle.simple_convergency.specs.declared.StopRule.{StopRule}
 use Rattle.searching.specs.Programs.{rising, differ, productDeparts, oracle, Event, Prog, Turned}
@@ -143,9 +143,9 @@ module _ (a : List Float) (stop : StopRule) (good : badEps (stop .eps) ≡ false
       let l = b .left-end in
       let r = b .right-end in
       let first : above (mul binary64 (p .y) (s .left .weight)) ≡ Bool·beq (w .0) (l .side) =
-          product-tells (p .y) (s .left .weight) 300 (l .power) (omega (arith, l .bound, few)) z (l .size) ∙ same-sign-is (w .0) (l .side) _ _ (w .1) (l .weight-side) in
+      product-tells (p .y) (s .left .weight) 300 (l .power) (omega (arith, l .bound, few)) z (l .size) ∙ same-sign-is (w .0) (l .side) _ _ (w .1) (l .weight-side) in
       let second : above (mul binary64 (p .y) (s .right .weight)) ≡ Bool·beq (w .0) (r .side) =
-          product-tells (p .y) (s .right .weight) 300 (r .power) (omega (arith, r .bound, few)) z (r .size) ∙ same-sign-is (w .0) (r .side) _ _ (w .1) (r .weight-side) in
+      product-tells (p .y) (s .right .weight) 300 (r .power) (omega (arith, r .bound, few)) z (r .size) ∙ same-sign-is (w .0) (r .side) _ _ (w .1) (r .weight-side) in
       let same : sameSign (p .y) (s .left .at .y) ≡ Bool·beq (w .0) (l .side) = same-sign-is (w .0) (l .side) _ _ (w .1) (l .value-side) in
       rw (first, second, same) (settled (w .0) (l .side) (r .side) (sym (same-sign-is (l .side) (r .side) _ _ (l .value-side) (r .value-side)) ∙ b .apart))
 
