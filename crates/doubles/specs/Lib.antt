@@ -6,4 +6,5 @@ pub mod Pairs
 pub mod Signs
 pub mod Products
 pub mod Sizes
+pub mod Sums
 pub mod Examples

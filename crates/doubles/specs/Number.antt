@@ -60,7 +60,7 @@ bits-low x d = omega (arith, eqb-false (toBits binary64 x / 2 ^ 52 % 2048) 2047 
 -- ---- the pattern of m * 2 ^ e
 
 -- how many of the smallest double it is
-abbrev many : ℕ → ℤ → ℕ
+abbrev pub many : ℕ → ℤ → ℕ
 many m e = m * up e * 2 ^ 1074 / down e
 
 -- the pattern of n of the smallest double
@@ -86,7 +86,7 @@ whole-at l m (negsuc a) h =
     let q : m * 1 * 2 ^ l ≡ m * 1 * 2 ^ (l - suc a) * 2 ^ suc a = ap (λ (x : ℕ). m * 1 * x) p ∙ sym (mul-assoc (m * 1) (2 ^ (l - suc a)) (2 ^ suc a)) in
     q ∙ ap (λ (x : ℕ). x * 2 ^ suc a) (sym (ap (λ (x : ℕ). x / 2 ^ suc a) q ∙ mul-div-cancel (m * 1 * 2 ^ (l - suc a)) (pow-pos (suc a))))
 
-fits-whole : (s : Bool) (m : ℕ) (e : ℤ) → T (fits binary64 (fin s m e)) → m * up e * 2 ^ 1074 ≡ many m e * down e
+pub fits-whole : (s : Bool) (m : ℕ) (e : ℤ) → T (fits binary64 (fin s m e)) → m * up e * 2 ^ 1074 ≡ many m e * down e
 unfolding fits
 fits-whole s zero e h = simp (zero-mul, zero-div)
 fits-whole s (suc m) e h =

@@ -74,7 +74,7 @@ size-of-le k lo (fin false m e) p v h =
     le→leb (down e) (m * up e * 2 ^ k) (rw one-mul at (values-of-le lo (fin false m e) 1 (2 ^ k) (m * up e) (down e) p (above-of-le lo (fin false m e) p h) v (refl, refl) h))
 
 -- a fraction of 2 ^ -k or more is rounded to such a double
-rounded : (s : Bool) (a c k : ℕ) → 0 < c → k ≤ 1074 → c ≤ a * 2 ^ k → T (atLeast k (round binary64 s a c))
+pub rounded : (s : Bool) (a c k : ℕ) → 0 < c → k ≤ 1074 → c ≤ a * 2 ^ k → T (atLeast k (round binary64 s a c))
 rounded s a c k C h l =
     let lo = round binary64 false 1 (2 ^ k) in
     let v = power-value k h in
@@ -86,7 +86,7 @@ rounded s a c k C h l =
 cross : (x y a b j k : ℕ) → x ≤ a * 2 ^ j → y ≤ b * 2 ^ k → x * y ≤ a * b * 2 ^ (j + k)
 cross x y a b j k h g = le-trans (mul-le-mul h g) (le-of-eq (mul-mul-mul-comm a (2 ^ j) b (2 ^ k) ∙ ap (λ (n : ℕ). a * b * n) (sym (pow-add 2 j k))))
 
-above-zero : (k m : ℕ) (e : ℤ) → T (leb (down e) (m * up e * 2 ^ k)) → 0 < m
+pub above-zero : (k m : ℕ) (e : ℤ) → T (leb (down e) (m * up e * 2 ^ k)) → 0 < m
 above-zero k zero e h =
     let g : down e ≤ 0 = rw (zero-mul, zero-mul) at (leb→le (down e) (0 * up e * 2 ^ k) h) in
     absurd (omega (arith, down-pos e))

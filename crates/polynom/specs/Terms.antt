@@ -1,11 +1,15 @@
 -- Laws of the sums: a coefficient more at a time, and that the value's bits are the same beside the derivative.
+use mathlib.Core.Bool.{false}
 use mathlib.Core.Path.{_≡_, refl, ap, _∙_}
 use mathlib.Core.List.{List, [], _∷_}
 use Prim.Native.Nat.{ℕ, suc, _-_, _≤_, _<_}
 use native.Mathlib.Omega.{arith}
 use lib.ListN.{length, drop, getD}
 use lib.Seq.{drop-cons, drop-length}
-use lib.Ieee.{Float, nan}
+use lib.Dec.{T}
+use lib.Ieee.{Float, nan, binary64, fits, ofBits}
+use lib.Ieee.Fits.{add-fits, mul-fits}
+use Rattle.doubles.specs.Sums.{minusZero, sum-not-minus}
 use Rattle.polynom.specs.Polynom.{Sum, nothingSummed, summed, sums, whole, value, Sums, nothingSummedBoth, summedBoth, sumsBoth, valueAndDerivative}
 
 -- what is left from i - 1 on is the coefficient there and what is left from i on
@@ -39,3 +43,15 @@ same-sum (a ∷ rest) x = ap (summed x a) (same-sum rest x)
 pub same-value : (a : List Float) (x : Float) → valueAndDerivative a x .value ≡ record { x = x; y = value a x }
 unfolding valueAndDerivative value
 same-value a x = ap (λ (s : Sum). record { x = x; y = whole s }) (same-sum a x)
+
+-- ---- no computed value is minus zero
+
+-- the sum begins with plus zero, and both numbers fit their format
+sums-plus : (a : List Float) (x : Float) → T (fits binary64 (sums a x .result)) × (minusZero (sums a x .result) ≡ false) × T (fits binary64 (sums a x .xn))
+unfolding sums fits ofBits
+sums-plus [] x = (tt, refl, tt)
+sums-plus (a ∷ rest) x = let t = sums-plus rest x in (add-fits binary64 _ _, sum-not-minus (sums rest x .result) _ (t .0) (mul-fits binary64 a _) (t .1), mul-fits binary64 (sums rest x .xn) x)
+
+pub value-not-minus : (a : List Float) (x : Float) → minusZero (value a x) ≡ false
+unfolding value
+value-not-minus a x = let t = sums-plus a x in sum-not-minus (sums a x .result) (sums a x .xn) (t .0) (t .2) (t .1)

@@ -1,16 +1,18 @@
 -- Demand 3, of every call that passes 1 to 5, over the history of its definition.
 use Prim.Native.Nat.{ℕ, _≤_}
-use mathlib.Core.Bool.{Bool, true}
+use mathlib.Core.Bool.{Bool, true, false}
 use mathlib.Core.List.{List}
 use mathlib.Core.Logic.{_↔_, _⊎_}
-use mathlib.Core.Path.{_≡_}
+use mathlib.Core.Path.{_≡_, sym, subst}
 use lib.Ieee.{Float, binary64, lt, sub}
 use lib.Ieee.Scale.{finite}
 use Rattle.doubles.specs.Doubles.{absolute, sameSign, orderOf}
 use Rattle.doubles.specs.Pairs.{BetweenZ}
+use Rattle.doubles.specs.Sums.{minusZero}
 use Rattle.numerical.specs.declared.Answer.the-variants.{ByValue, ByWidth, Refused}
 use Rattle.numerical.specs.declared.Sample.{Sample}
 use Rattle.polynom.specs.Polynom.{value}
+use Rattle.polynom.specs.Terms.{value-not-minus}
 use Rattle.searching.specs.Brackets.{pairsIn, Narrows}
 use Rattle.searching.specs.Histories.{stepsIn}
 use Rattle.searching.specs.ProgramLaws.{counted}
@@ -83,6 +85,10 @@ module _ (a : List Float) (m : Method) (eps : Float) (limit : ℕ) (passes : atO
     -- by value: the root's computed value is the value given, its size is below eps, and the root is finite
     pub by-value : (root y : Float) → answer a m eps limit .answer ≡ ByValue root y → (y ≡ value a root) × (lt (absolute y) eps ≡ true) × (finite root ≡ true)
     by-value root y e = value-true a m eps limit passes doubles root y e
+
+    -- a value given is never minus zero; a root may be
+    pub no-minus-zero : (root y : Float) → answer a m eps limit .answer ≡ ByValue root y → minusZero y ≡ false
+    no-minus-zero root y e = subst (λ (z : Float). minusZero z ≡ false) (sym (by-value root y e .0)) (value-not-minus a root)
 
     -- by width: the computed difference of the two points given is below eps in size, and the root is finite
     pub by-width : (root p q : Float) → answer a m eps limit .answer ≡ ByWidth root p q → (lt (absolute (sub binary64 p q)) eps ≡ true) × (finite root ≡ true)
