@@ -49,7 +49,7 @@ finite-end a i h k e = go ∙ e
     go : true ≡ allFinite (drop i a)
     go = rw (same, drop-length)
 
--- ---- by the method's variant, and by the stop rule's check
+-- ---- by the method's variant
 
 pub by-starts : {r : Bool} (m : Method) {n : Method} → m ≡ n → r ≡ allFinite (startsOf n) → r ≡ allFinite (startsOf m)
 by-starts m e k = rw e k
@@ -64,13 +64,3 @@ one-finite x e = e ∙ go (finite x)
 
 pub by-method : {r : Outcome} (a : List Float) (stop : StopRule) (m : Method) {n : Method} → m ≡ n → r ≡ foundBy a stop n → r ≡ foundBy a stop m
 by-method a stop m e k = rw e k
-
-module _ {r : Outcome} (a : List Float) (m : Method) (eps : Float) (limit : ℕ) {c : Checked} where
-  pub by-rule : {stop : StopRule} → c ≡ checkedOf eps limit → c ≡ Rule stop → r ≡ foundBy a stop m → r ≡ foundUnder a m (checkedOf eps limit)
-  by-rule e k g = g ∙ ap (foundUnder a m) (sym k ∙ e)
-
-  pub by-refusal : {n : ℕ} → c ≡ checkedOf eps limit → c ≡ Refused n → r ≡ refusedAtOnce n → r ≡ foundUnder a m (checkedOf eps limit)
-  by-refusal e k g = g ∙ ap (foundUnder a m) (sym k ∙ e)
-
-pub limit-kept : (eps : Float) (limit : ℕ) {c : Checked} {stop : StopRule} → c ≡ checkedOf eps limit → c ≡ Rule stop → stop .limit ≤ 400
-limit-kept eps limit e k = let p = passed eps limit _ (sym e ∙ k) in let s = p .same-limit in let l = p .in-range in omega arith

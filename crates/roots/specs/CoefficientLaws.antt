@@ -1,5 +1,6 @@
 -- Where a coefficient is not finite, every method is refused with 9 at its first evaluation, so a look after the search finds refusal 2 as one before it does.
-use Prim.Native.Nat.{ℕ}
+use Prim.Native.Nat.{ℕ, _≤_}
+use native.Mathlib.Omega.{arith}
 use mathlib.Core.Bool.{Bool, true, false, cond, true≢false}
 use mathlib.Core.List.{List, [], _∷_}
 use mathlib.Core.Path.{_≡_, refl, ap, sym, _∙_}
@@ -11,12 +12,14 @@ use lib.Ieee.Scale.{finite}
 use Rattle.numerical.specs.Answers.{refusedAtOnce}
 use Rattle.numerical.specs.Tallies.{fresh, valuedOf, slopedOf}
 use Rattle.numerical.specs.declared.Answer.{Answer}
-use Rattle.numerical.specs.declared.Answer.the-variants.{Refused}
+use Rattle.numerical.specs.declared.Answer.the-variants as answered
 use Rattle.numerical.specs.declared.Outcome.{Outcome}
 use Rattle.numerical.specs.declared.Sample.{Sample}
 use Rattle.simple_convergency.specs.Stop.{greatestLimit, badEps, checkedOf}
 use Rattle.simple_convergency.specs.declared.StopRule.{StopRule}
-use Rattle.simple_convergency.specs.declared.Checked.the-variants as checked
+use Rattle.simple_convergency.specs.StopLaws.{passed}
+use Rattle.simple_convergency.specs.declared.Checked.{Checked}
+use Rattle.simple_convergency.specs.declared.Checked.the-variants.{Rule, Refused}
 use Rattle.polynom.specs.FiniteTerms.{EachFinite, no-value, no-value-with-derivative}
 use Rattle.polynom.specs.declared.Evaluated.{Evaluated}
 use Rattle.polynom.specs.declared.EvaluatedBoth.{EvaluatedBoth}
@@ -29,7 +32,7 @@ use Rattle.secant.specs.Secant as secant
 use Rattle.newton_raphson.specs.NewtonRaphson as newton
 use Rattle.polynom_search.specs.PolynomSearch as polynom
 use Rattle.roots.specs.Calls.{badCount, allFinite, startsOf, foundBy, foundUnder, answer}
-use Rattle.roots.specs.Coefficients.{refusalLeavesOpen, beforeLook, leavesOpen, afterLook}
+use Rattle.roots.specs.Coefficients.{checkOf, refusedBefore, opens, leavesOpen, afterLook, lookedAt}
 use Rattle.roots.specs.declared.Method.{Method}
 use Rattle.roots.specs.declared.Method.the-variants.{Brent, RegulaFalsi, Secant, NewtonRaphson, Polynom}
 
@@ -38,7 +41,7 @@ use Rattle.roots.specs.declared.Method.the-variants.{Brent, RegulaFalsi,
 module _ (a : List Float) (h : EachFinite a → ⊥) where
   -- an opening that is refused with 9
   record Nine {S : Type 0} (g : Prog (Turned S)) : Type 0 where
-    there : play tallied (oracle a) g fresh .0 ≡ ended (Refused 9)
+    there : play tallied (oracle a) g fresh .0 ≡ ended (answered.Refused 9)
 
   module _ {S : Type 0} where
     nine-value : (x : Float) (k : Sample → Prog (Turned S)) → Nine (valueAt x k)
@@ -54,29 +57,18 @@ module _ (a : List Float) (h : EachFinite a → ⊥) where
     nine-test true p q = p
     nine-test false p q = q
 
-    nine-search : {opening : Prog (Turned S)} (turns : Turned S → ℕ) (turn : S → Prog (Turned S)) → Nine opening → answerOf a (searches opening turns turn) .answer ≡ Refused 9
+    nine-search : {opening : Prog (Turned S)} (turns : Turned S → ℕ) (turn : S → Prog (Turned S)) → Nine opening → answerOf a (searches opening turns turn) .answer ≡ answered.Refused 9
     unfolding answerOf searches play
     nine-search turns turn n = rw (play-bind, n .there, run-ended)
 
   -- each method evaluates at a start first
-  found-nine : (stop : StopRule) (m : Method) → foundBy a stop m .answer ≡ Refused 9
+  found-nine : (stop : StopRule) (m : Method) → foundBy a stop m .answer ≡ answered.Refused 9
   unfolding rising brent.brent brent.brentProgram brent.opening illinois.regulaFalsi illinois.illinoisProgram illinois.opening illinois.ordered secant.secant secant.secantProgram secant.opening newton.newtonRaphson newton.newtonProgram newton.opening polynom.polynomSearch polynom.polynomProgram polynom.opening polynom.ordered
   found-nine stop (Brent from to) = nine-search _ _ (nine-value _ _)
   found-nine stop (RegulaFalsi from to) = nine-search _ _ (nine-test (lt to from) (nine-value _ _) (nine-value _ _))
   found-nine stop (Secant first second) = nine-search _ _ (nine-value _ _)
   found-nine stop (NewtonRaphson start) = nine-search _ _ (nine-both _ _)
   found-nine stop (Polynom from to) = nine-search _ _ (nine-test (lt to from) (nine-value _ _) (nine-value _ _))
-
-  -- so what is answered before a look leaves refusal 2 open
-  left-open : (m : Method) (eps : Float) (limit : ℕ) → leavesOpen (beforeLook a m eps limit .answer) ≡ true
-  unfolding beforeLook checkedOf refusalLeavesOpen
-  left-open m eps limit = go (allFinite (startsOf m)) (badEps eps) (ltb greatestLimit limit)
-    where
-      go : (s e l : Bool) → leavesOpen (cond s (foundUnder a m (cond e (checked.Refused 4) (cond l (checked.Refused 5) (checked.Rule (record { eps = eps; limit = limit }))))) (refusedAtOnce 3) .answer) ≡ true
-      go false e l = refl
-      go true true l = refl
-      go true false true = refl
-      go true false false = ap leavesOpen (found-nine _ m)
 
 -- ---- a look after the search tells what one before it does
 
@@ -86,22 +78,55 @@ all-finite [] h = refl
 all-finite (c ∷ rest) h = rw (is-true (finite c) (h .0)) (all-finite rest (h .1))
 
 module _ (a : List Float) (m : Method) (eps : Float) (limit : ℕ) where
-  looked : afterLook a (beforeLook a m eps limit) ≡ cond (allFinite a) (beforeLook a m eps limit) (refusedAtOnce 2)
+  -- a rule's search: refused with 2 where a coefficient isn't finite, for then its answer is 9
+  looked-after : (stop : StopRule) → afterLook a (foundBy a stop m) ≡ cond (allFinite a) (foundBy a stop m) (refusedAtOnce 2)
   unfolding afterLook
-  looked = go (beforeLook a m eps limit) (allFinite a) (leavesOpen (beforeLook a m eps limit .answer)) open-then
+  looked-after stop = go (foundBy a stop m) (allFinite a) (leavesOpen (foundBy a stop m .answer)) open-then
     where
-      open-then : allFinite a ≡ false → leavesOpen (beforeLook a m eps limit .answer) ≡ true
-      open-then e = left-open a (λ h. true≢false (sym (all-finite a h) ∙ e)) m eps limit
+      open-then : allFinite a ≡ false → leavesOpen (foundBy a stop m .answer) ≡ true
+      open-then e = ap leavesOpen (found-nine a (λ h. true≢false (sym (all-finite a h) ∙ e)) stop m)
 
       go : (r : Outcome) (f o : Bool) → (f ≡ false → o ≡ true) → cond o (cond f r (refusedAtOnce 2)) r ≡ cond f r (refusedAtOnce 2)
       go r f true k = refl
       go r true false k = refl
       go r false false k = absurd (true≢false (sym (k refl)))
 
-  pub by-look : {b : Bool} {u r : Outcome} → b ≡ badCount (length a) → b ≡ false → u ≡ beforeLook a m eps limit → r ≡ afterLook a u → r ≡ answer a m eps limit
-  unfolding answer beforeLook
-  by-look e f u r = r ∙ ap (afterLook a) u ∙ looked ∙ rw (← e, f) refl
+  looked : lookedAt a m (checkOf (length a) m eps limit) ≡ answer a m eps limit
+  unfolding checkOf checkedOf refusedBefore answer
+  looked = go (badCount (length a)) (allFinite (startsOf m)) (badEps eps) (ltb greatestLimit limit)
+    where
+      stop : StopRule
+      stop = record { eps = eps; limit = limit }
+
+      under : (e l : Bool) → Checked
+      under e l = cond e (Refused 4) (cond l (Refused 5) (Rule stop))
+
+      go : (b s e l : Bool) →
+          lookedAt a m (cond b (Refused 1) (cond s (under e l) (Refused 3))) ≡
+          cond b (refusedAtOnce 1) (cond (allFinite a) (cond s (foundUnder a m (under e l)) (refusedAtOnce 3)) (refusedAtOnce 2))
+      go true s e l = refl
+      go false false e l = refl
+      go false true true l = refl
+      go false true false true = refl
+      go false true false false = looked-after stop
+
+  module _ {c : Checked} {r : Outcome} (e : c ≡ checkOf (length a) m eps limit) where
+    pub by-rule : {stop : StopRule} {u : Outcome} → c ≡ Rule stop → u ≡ foundBy a stop m → r ≡ afterLook a u → r ≡ answer a m eps limit
+    by-rule k u g = g ∙ ap (afterLook a) u ∙ ap (lookedAt a m) (sym k ∙ e) ∙ looked
+
+    pub by-refusal : {n : ℕ} → c ≡ Refused n → r ≡ refusedBefore a n → r ≡ answer a m eps limit
+    by-refusal k g = g ∙ ap (lookedAt a m) (sym k ∙ e) ∙ looked
+
+  -- a rule that passed the check keeps to the greatest limit
+  pub limit-kept : {c : Checked} {stop : StopRule} → c ≡ checkOf (length a) m eps limit → c ≡ Rule stop → stop .limit ≤ 400
+  unfolding checkOf
+  limit-kept {c = c} {stop = stop} e k = go (badCount (length a)) (allFinite (startsOf m)) (sym e ∙ k)
+    where
+      go : (b s : Bool) → cond b (Refused 1) (cond s (checkedOf eps limit) (Refused 3)) ≡ Rule stop → stop .limit ≤ 400
+      go true s z = absurd (let q : _≡_ {A = ℕ} 0 1 = cc in omega arith)
+      go false false z = absurd (let q : _≡_ {A = ℕ} 0 1 = cc in omega arith)
+      go false true z = let p = passed eps limit stop z in let s = p .same-limit in let l = p .in-range in omega arith
 
 -- by the answer's variant
-pub by-refusal-open : {b : Bool} {n : ℕ} (r : Answer) → r ≡ Refused n → b ≡ refusalLeavesOpen n → b ≡ leavesOpen r
-by-refusal-open r e k = k ∙ ap leavesOpen (sym e)
+pub by-nine : {b : Bool} {n : ℕ} (r : Answer) → r ≡ answered.Refused n → b ≡ opens n → b ≡ leavesOpen r
+by-nine r e k = k ∙ ap leavesOpen (sym e)

@@ -6,9 +6,8 @@ use simple_convergency::StopRule;
 ghost use mathlib.Core.Path.{_≡_};
 ghost use mathlib.Core.List.{[], _∷_};
 ghost use Prim.Native.Nat.{_≤_};
-ghost use Rattle.roots.specs.Calls.{badCount, allFinite, startsOf, foundBy, foundUnder, answer, plainLimit};
-ghost use Rattle.roots.specs.Coefficients.{beforeLook, refusalLeavesOpen, leavesOpen, afterLook};
-ghost use Rattle.simple_convergency.specs.Stop.{checkedOf};
+ghost use Rattle.roots.specs.Calls.{badCount, allFinite, startsOf, foundBy, answer, plainLimit};
+ghost use Rattle.roots.specs.Coefficients.{checkOf, refusedBefore, leavesOpen, afterLook};
 
 // A method with its starts.
 pub enum Method {
@@ -82,36 +81,35 @@ fn found_by(a: &[f64], stop: StopRule, method: Method) -> Outcome
     }
 }
 
-// Refusals 4 and 5, and then the search.
-fn found_under(a: &[f64], method: Method, eps: f64, limit: u64) -> Outcome
-    ensures { λ r. ⌜ r ≡ foundUnder (now (a .entry)) method (checkedOf eps limit) ⌝ }
+// The rule that a call has, or the first of refusals 1, 3, 4 and 5. None of these looks at the coefficients.
+fn check(count: usize, method: Method, eps: f64, limit: u64) -> Checked
+    ensures { λ r. ⌜ r ≡ checkOf count method eps limit ⌝ }
 {
-    let checked = StopRule::checked(eps, limit);
-    match checked {
-        Checked::Rule(stop) => found_by(a, stop, method),
-        Checked::Refused(number) => Outcome::refused_at_once(number),
+    if is_bad_count(count) {
+        return Checked::Refused(1);
     }
-}
-
-// Refusals 3 to 5, and then the search, with no look at the coefficients.
-fn before_look(a: &[f64], method: Method, eps: f64, limit: u64) -> Outcome
-    ensures { λ r. ⌜ r ≡ beforeLook (now (a .entry)) method eps limit ⌝ }
-{
     if starts_finite(method) {
-        found_under(a, method, eps, limit)
+        StopRule::checked(eps, limit)
     } else {
-        Outcome::refused_at_once(3)
+        Checked::Refused(3)
     }
 }
 
-// Whether a refusal comes after 2 and before any evaluation, or is 9, where a value wasn't finite.
-fn refusal_leaves_open(number: u8) -> bool
-    ensures { λ r. ⌜ r ≡ refusalLeavesOpen number ⌝ }
+// A refusal that comes before any evaluation: 2 goes before 3 to 5, and 1 before it.
+fn refused(a: &[f64], number: u8) -> Outcome
+    ensures { λ r. ⌜ r ≡ refusedBefore (now (a .entry)) number ⌝ }
 {
-    if number < 6 { true } else { number == 9 }
+    if number == 1 {
+        return Outcome::refused_at_once(number);
+    }
+    if all_finite(a) {
+        Outcome::refused_at_once(number)
+    } else {
+        Outcome::refused_at_once(2)
+    }
 }
 
-// Whether an answer leaves it open that a coefficient isn't finite. Where a value was finite, all coefficients are.
+// Whether an answer leaves it open that a coefficient isn't finite: 9 does. Where a value was finite, all coefficients are.
 fn leaves_open(answer: Answer) -> bool
     ensures { λ r. ⌜ r ≡ leavesOpen answer ⌝ }
 {
@@ -122,7 +120,7 @@ fn leaves_open(answer: Answer) -> bool
             p: _,
             q: _,
         } => false,
-        Answer::Refused(number) => refusal_leaves_open(number),
+        Answer::Refused(number) => number == 9,
     }
 }
 
@@ -146,10 +144,11 @@ fn after_look(a: &[f64], outcome: Outcome) -> Outcome
 pub fn search(a: &[f64], method: Method, eps: f64, limit: u64) -> Outcome
     ensures { λ r. ⌜ r ≡ answer (now (a .entry)) method eps limit ⌝ }
 {
-    if is_bad_count(a.len()) {
-        return Outcome::refused_at_once(1);
+    let checked = check(a.len(), method, eps, limit);
+    match checked {
+        Checked::Rule(stop) => after_look(a, found_by(a, stop, method)),
+        Checked::Refused(number) => refused(a, number),
     }
-    after_look(a, before_look(a, method, eps, limit))
 }
 
 // A search with the limit that a plain eps has in the Rust.

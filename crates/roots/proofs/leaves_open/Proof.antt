@@ -1,4 +1,4 @@
-use Rattle.roots.specs.CoefficientLaws.{by-refusal-open}
+use Rattle.roots.specs.CoefficientLaws.{by-nine}
 use borrow.Author.Needs.{needs}
 use Rattle.roots.proofs.leaves_open.Statement.{statement}
 use Rattle.roots.proofs.leaves_open.Tie as tie
@@ -12,9 +12,6 @@ enum-told-2 c = search needs
 enum-known-answer : tie.Need-enum-known-answer
 enum-known-answer c = search needs
 
-refusal-leaves-open-requires : tie.Need-refusal-leaves-open-requires
-refusal-leaves-open-requires c κs = search needs
-
 returns : tie.Need-returns
 returns c = search needs
 
@@ -22,16 +19,8 @@ returns-2 : tie.Need-returns-2
 returns-2 c = search needs
 
 returns-3 : tie.Need-returns-3
-returns-3 c = search by-refusal-open
+returns-3 c = search (by-nine, needs)
 
 pub leaves-open-spec : {M : Type 1} → statement M
 leaves-open-spec =
-    tie.close
-    (tie.spec
-    enum-told
-    enum-told-2
-    enum-known-answer
-    refusal-leaves-open-requires
-    returns
-    returns-2
-    returns-3)
+    tie.close (tie.spec enum-told enum-told-2 enum-known-answer returns returns-2 returns-3)

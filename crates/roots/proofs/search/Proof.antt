@@ -1,36 +1,41 @@
-use Rattle.numerical.specs.Choices.{choices}
-use Rattle.roots.specs.Calls.{answer}
-use Rattle.roots.specs.CoefficientLaws.{by-look}
+use Rattle.roots.specs.CoefficientLaws.{by-rule, by-refusal, limit-kept}
 use borrow.Author.Needs.{needs}
 use Rattle.roots.proofs.search.Statement.{statement}
 use Rattle.roots.proofs.search.Tie as tie
 
-is-bad-count-requires : tie.Need-is-bad-count-requires
-is-bad-count-requires c κs = search needs
+check-requires : tie.Need-check-requires
+check-requires c κs = search needs
 
-refused-at-once-requires : tie.Need-refused-at-once-requires
-refused-at-once-requires c κs = search needs
+enum-known-checked : tie.Need-enum-known-checked
+enum-known-checked c = search needs
 
-returns : tie.Need-returns
-unfolding answer
-returns c = search choices
-
-before-look-requires : tie.Need-before-look-requires
-before-look-requires c κs = search needs
+found-by-requires : tie.Need-found-by-requires
+found-by-requires c κs = search limit-kept
 
 after-look-requires : tie.Need-after-look-requires
 after-look-requires c κs = search needs
 
+enum-known-checked-2 : tie.Need-enum-known-checked-2
+enum-known-checked-2 c = search needs
+
+refused-requires : tie.Need-refused-requires
+refused-requires c κs = search needs
+
+returns : tie.Need-returns
+returns c = search by-rule
+
 returns-2 : tie.Need-returns-2
-returns-2 c = search by-look
+returns-2 c = search by-refusal
 
 pub search-spec : {M : Type 1} → statement M
 search-spec =
     tie.close
     (tie.spec
-    is-bad-count-requires
-    refused-at-once-requires
-    returns
-    before-look-requires
+    check-requires
+    enum-known-checked
+    found-by-requires
     after-look-requires
+    enum-known-checked-2
+    refused-requires
+    returns
     returns-2)
