@@ -5,6 +5,7 @@ use lib.Ieee.{Float, binary64, ofBits, add, mul}
 use lib.Ieee.Scale.{finite}
 use Rattle.doubles.specs.Doubles.{nought}
 use Rattle.numerical.specs.declared.Sample.{Sample}
+use Rattle.polynom.specs.declared.Sum.{Sum}
 use Rattle.polynom.specs.declared.ValueAndDerivative.{ValueAndDerivative}
 use Rattle.polynom.specs.declared.Evaluated.{Evaluated}
 use Rattle.polynom.specs.declared.Evaluated.the-variants.{At, NotFinite}
@@ -16,11 +17,7 @@ one = ofBits binary64 0x3ff0_0000_0000_0000
 
 -- ---- "The value adds from a[n-1] upwards, with xn growing by one factor x each time"
 
--- the sum so far, and the next power of x
-pub record Sum : Type 0 where
-  pub result : Float
-  pub xn : Float
-
+-- a Sum is the sum so far, and the next power of x
 abbrev pub nothingSummed : Sum
 nothingSummed = record { result = nought; xn = one }
 

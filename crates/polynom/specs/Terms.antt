@@ -2,7 +2,7 @@
 use mathlib.Core.Bool.{false}
 use mathlib.Core.Path.{_≡_, refl, ap, _∙_}
 use mathlib.Core.List.{List, [], _∷_}
-use Prim.Native.Nat.{ℕ, suc, _-_, _≤_, _<_}
+use Prim.Native.Nat.{ℕ, suc, _+_, _-_, _≤_, _<_}
 use native.Mathlib.Omega.{arith}
 use lib.ListN.{length, drop, getD}
 use lib.Seq.{drop-cons, drop-length}
@@ -10,7 +10,9 @@ use lib.Dec.{T}
 use lib.Ieee.{Float, nan, binary64, fits, ofBits}
 use lib.Ieee.Fits.{add-fits, mul-fits}
 use Rattle.doubles.specs.Sums.{minusZero, sum-not-minus}
-use Rattle.polynom.specs.Polynom.{Sum, nothingSummed, summed, sums, whole, value, Sums, nothingSummedBoth, summedBoth, sumsBoth, valueAndDerivative}
+use Rattle.polynom.specs.declared.Sum.{Sum}
+use Rattle.polynom.specs.declared.Summed.{Summed}
+use Rattle.polynom.specs.Polynom.{nothingSummed, summed, sums, whole, value, Sums, nothingSummedBoth, summedBoth, sumsBoth, valueAndDerivative}
 
 -- what is left from i - 1 on is the coefficient there and what is left from i on
 drop-one : (a : List Float) (i : ℕ) → 0 < i → i ≤ length a → drop (i - 1) a ≡ getD a (i - 1) nan ∷ drop i a
@@ -18,13 +20,47 @@ drop-one a i p h =
     let e : suc (i - 1) ≡ i = omega arith in
     drop-cons a (i - 1) nan (omega arith) ∙ ap (λ (n : ℕ). getD a (i - 1) nan ∷ drop n a) e
 
-pub sums-none : (a : List Float) (x : Float) → sums (drop (length a) a) x ≡ nothingSummed
+pub sums-none : (a : List Float) (x : Float) (n : ℕ) → n ≡ length a → sums (drop n a) x ≡ nothingSummed
 unfolding sums
-sums-none a x = rw drop-length
+sums-none a x n e = rw (e, drop-length)
 
-pub sums-more : (a : List Float) (x : Float) (i : ℕ) (s : Sum) → 0 < i → i ≤ length a → sums (drop i a) x ≡ s → sums (drop (i - 1) a) x ≡ summed x (getD a (i - 1) nan) s
+pub sums-more : (a : List Float) (x : Float) (i : ℕ) (s : Sum) → i < length a → sums (drop (1 + i) a) x ≡ s → sums (drop i a) x ≡ summed x (getD a i nan) s
 unfolding sums
-sums-more a x i s p h e = rw (drop-one a i p h, e)
+sums-more a x i s h e =
+    let same : 1 + i ≡ suc i = omega arith in
+    rw (drop-cons a i nan h, rw same at e)
+
+-- the second last of two terms, and then the last
+pub two-left : (a : List Float) (x : Float) (i : ℕ) (s : Sum) → 1 + i < length a → sums (drop (2 + i) a) x ≡ s → (i + 1 < length a) × (sums (drop (1 + (i + 1)) a) x ≡ s)
+two-left a x i s h e =
+    let same : 2 + i ≡ 1 + (i + 1) = omega arith in
+    (omega arith, rw same at e)
+
+pub one-left : (a : List Float) (x : Float) (i : ℕ) (s : Sum) → 1 + i < length a → sums (drop (i + 1) a) x ≡ s → (i < length a) × (sums (drop (1 + i) a) x ≡ s)
+one-left a x i s h e =
+    let same : i + 1 ≡ 1 + i = omega arith in
+    (omega arith, rw same at e)
+
+-- the coefficients from `left` on are summed
+abbrev pub Passed : List Float → Float → Summed → Type 0
+Passed a x s = (s .left ≤ length a) × (sums (drop (s .left) a) x ≡ s .sum)
+
+-- two or more are left
+pub pair-left : (a : List Float) (x : Float) (left : ℕ) (s : Sum) → 1 < left → left ≤ length a → sums (drop left a) x ≡ s → (1 + (left - 2) < length a) × (sums (drop (2 + (left - 2)) a) x ≡ s)
+pair-left a x left s p h e =
+    let same : left ≡ 2 + (left - 2) = omega arith in
+    (omega arith, rw same at e)
+
+-- the first coefficient alone is left, or none
+pub first-left : (a : List Float) (x : Float) (s : Summed) → 0 < s .left → s .left ≤ 1 → Passed a x s → (0 < length a) × (sums (drop 1 a) x ≡ s .sum)
+first-left a x s p q h =
+    let one : s .left ≡ 1 = omega arith in
+    (omega arith, rw one at (h .1))
+
+pub none-left : (a : List Float) (x : Float) (s : Summed) → s .left ≤ 0 → Passed a x s → sums a x ≡ s .sum
+none-left a x s p h =
+    let none : s .left ≡ 0 = omega arith in
+    rw none at (h .1)
 
 pub sums-both-none : (a : List Float) (x : Float) → sumsBoth (drop (length a) a) x ≡ nothingSummedBoth
 unfolding sumsBoth

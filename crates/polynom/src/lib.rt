@@ -1,7 +1,22 @@
 // The polynomial x^n + a[0]x^(n-1) + .. + a[n-1] over lent coefficients: its value, its derivative, and evaluation with a check.
 use numerical::Sample;
 ghost use mathlib.Core.Path.{_≡_};
-ghost use Rattle.polynom.specs.Polynom.{value, valueAndDerivative, evaluated, keptBoth, evaluatedBoth};
+ghost use Prim.Native.Nat.{_≤_, _<_, _+_};
+ghost use lib.ListN.{length, drop};
+ghost use Rattle.polynom.specs.Polynom.{sums, value, valueAndDerivative, kept, evaluated, keptBoth, evaluatedBoth};
+ghost use Rattle.polynom.specs.Terms.{Passed};
+
+// The sum so far, and the next power of x.
+pub struct Sum {
+    pub result: f64,
+    pub xn: f64,
+}
+
+// The sum of the coefficients from `left` on.
+pub struct Summed {
+    pub sum: Sum,
+    pub left: usize,
+}
 
 pub struct ValueAndDerivative {
     pub value: Sample,
@@ -20,24 +35,76 @@ pub enum EvaluatedBoth {
     NotBothFinite,
 }
 
-// The value at x, summed from the last coefficient to the first. The first turn stands before the loop, where the compiler drops what 1.0 multiplies.
+// The sum of the coefficients from i on, with that of those after i at hand.
+fn one_more(a: &[f64], x: f64, i: usize, after: Sum) -> Sum
+    requires { ⌜ (i < length (now a)) × (sums (drop (1 + i) (now a)) x ≡ after) ⌝ }
+    ensures { λ r. ⌜ sums (drop i (now (a .entry))) x ≡ r ⌝ }
+{
+    let c = a[i];
+    Sum {
+        result: after.result + c * after.xn,
+        xn: after.xn * x,
+    }
+}
+
+// Two terms at a time, which is faster: the later one first.
+fn two_more(a: &[f64], x: f64, i: usize, after: Sum) -> Sum
+    requires { ⌜ (1 + i < length (now a)) × (sums (drop (2 + i) (now a)) x ≡ after) ⌝ }
+    ensures { λ r. ⌜ sums (drop i (now (a .entry))) x ≡ r ⌝ }
+{
+    one_more(a, x, i, one_more(a, x, i + 1, after))
+}
+
+// The last one or two coefficients. They stand before the loop, where the compiler drops what 1.0 multiplies.
+fn begun(a: &[f64], x: f64) -> Summed
+    ensures { λ r. ⌜ Passed (now (a .entry)) x r ⌝ }
+{
+    let none = Sum {
+        result: 0.0,
+        xn: 1.0,
+    };
+    let n = a.len();
+    if n > 1 {
+        Summed {
+            sum: two_more(a, x, n - 2, none),
+            left: n - 2,
+        }
+    } else if n > 0 {
+        Summed {
+            sum: one_more(a, x, 0, none),
+            left: 0,
+        }
+    } else {
+        Summed { sum: none, left: 0 }
+    }
+}
+
+// The first coefficient, if it is left.
+fn completed(a: &[f64], x: f64, s: Summed) -> Sum
+    requires { ⌜ (s .left ≤ 1) × Passed (now a) x s ⌝ }
+    ensures { λ r. ⌜ sums (now (a .entry)) x ≡ r ⌝ }
+{
+    let sum = s.sum;
+    if s.left > 0 {
+        one_more(a, x, 0, sum)
+    } else {
+        sum
+    }
+}
+
+// The value at x, summed from the last coefficient to the first.
 pub fn value(a: &[f64], x: f64) -> f64
     ensures { λ r. ⌜ r ≡ value (now (a .entry)) x ⌝ }
 {
-    let mut result = 0.0;
-    let mut xn = 1.0;
-    let mut i = a.len();
-    if i > 0 {
-        i -= 1;
-        result = 0.0 + a[i] * 1.0;
-        xn = 1.0 * x;
+    let first = begun(a, x);
+    let mut sum = first.sum;
+    let mut left = first.left;
+    while left > 1 {
+        left -= 2;
+        sum = two_more(a, x, left, sum);
     }
-    while i > 0 {
-        i -= 1;
-        result = result + a[i] * xn;
-        xn = xn * x;
-    }
-    result + xn
+    let all = completed(a, x, Summed { sum, left });
+    all.result + all.xn
 }
 
 // The value, with the derivative beside it, in the same way. The next power is begun before this one is used up, which is faster.
@@ -75,16 +142,22 @@ pub fn value_and_derivative(a: &[f64], x: f64) -> ValueAndDerivative
     }
 }
 
-// The sample at x, if its value is finite.
-pub fn evaluate(a: &[f64], x: f64) -> Evaluated
-    ensures { λ r. ⌜ r ≡ evaluated (now (a .entry)) x ⌝ }
+// The sample of a point and its value, if that is finite.
+pub fn kept(x: f64, y: f64) -> Evaluated
+    ensures { λ r. ⌜ r ≡ kept x y ⌝ }
 {
-    let y = value(a, x);
     if doubles::is_finite(y) {
         Evaluated::At(Sample { x, y })
     } else {
         Evaluated::NotFinite
     }
+}
+
+// The sample at x, if its value is finite.
+pub fn evaluate(a: &[f64], x: f64) -> Evaluated
+    ensures { λ r. ⌜ r ≡ evaluated (now (a .entry)) x ⌝ }
+{
+    kept(x, value(a, x))
 }
 
 // What was worked out together is checked together.

@@ -5,12 +5,14 @@ use numerical::Progress;
 use numerical::Sample;
 use polynom::Evaluated;
 use simple_convergency::StopRule;
+ghost use mathlib.Core.Bool.{false};
 ghost use mathlib.Core.Path.{_≡_};
 ghost use mathlib.Core.List.{List};
 ghost use Prim.Native.Nat.{_≤_};
 ghost use lib.Ieee.{Float};
 ghost use Rattle.numerical.specs.Tallies.{Room};
 ghost use Rattle.numerical.specs.declared.Answer.the-variants.{ByValue};
+ghost use Rattle.simple_convergency.specs.Stop.{foundAt};
 ghost use Rattle.searching.specs.Programs.{ended, next, log, narrowsTo, oracle, play, ruled, tallied};
 ghost use Rattle.searching.specs.LoopLaws.{runOf};
 ghost use Rattle.regula_falsi.specs.RegulaFalsi.{halved, pairOf, secondAt, firstAt, ordered, opening, candidateOf, rightAfter, leftAfter, leftReplaced, rightReplaced, elsewhere, departsFrom, arrived, landed, pulledIn, turnFrom, regulaFalsi, viewed};
@@ -77,13 +79,11 @@ fn by_value(s: Sample, progress: Progress) -> Turn
 
 // ---- the opening
 
-// The second value is found, or the two values have the same sign, or they are the first pair.
+// Neither value is found: the two have the same sign, or they are the first pair.
 fn second_at(stop: StopRule, p: Sample, q: Sample, progress: Progress) -> Turn
+    requires { ⌜ foundAt stop (q .y) ≡ false ⌝ }
     ensures { λ r. ⌜ ((cs : List Float) → viewed r ≡ play tallied (oracle cs) (secondAt stop p q) progress) ⌝ }
 {
-    if stop.found(q.y) {
-        return by_value(q, progress);
-    }
     let decided = searching::alike(p, q, progress);
     let marked = decided.progress;
     if decided.holds {
@@ -99,29 +99,34 @@ fn second_at(stop: StopRule, p: Sample, q: Sample, progress: Progress) -> Turn
     )
 }
 
-// The first value is tested before the second is evaluated.
+// The first value isn't found, and the second is evaluated. What is found is finite, so found is tested first.
 fn first_at(a: &[f64], stop: StopRule, x2: f64, p: Sample, progress: Progress) -> Turn
-    requires { ⌜ Room 1 progress ⌝ }
+    requires { ⌜ Room 1 progress × (foundAt stop (p .y) ≡ false) ⌝ }
     ensures { λ r. ⌜ viewed r ≡ play tallied (oracle (now (a .entry))) (firstAt stop x2 p) progress ⌝ }
 {
-    if stop.found(p.y) {
-        return by_value(p, progress);
-    }
     let counted = progress.valued();
-    let e = polynom::evaluate(a, x2);
+    let y2 = polynom::value(a, x2);
+    if stop.found(y2) {
+        return by_value(Sample { x: x2, y: y2 }, counted);
+    }
+    let e = polynom::kept(x2, y2);
     let Evaluated::At(q) = e else {
         return ended(Answer::Refused(9), counted);
     };
     second_at(stop, p, q, counted)
 }
 
-// The opening from starts that are in order.
+// The opening from starts that are in order. The first value is tested before the second is evaluated.
 fn ordered(a: &[f64], stop: StopRule, x1: f64, x2: f64, progress: Progress) -> Turn
     requires { ⌜ Room 2 progress ⌝ }
     ensures { λ r. ⌜ viewed r ≡ play tallied (oracle (now (a .entry))) (ordered stop x1 x2) progress ⌝ }
 {
     let counted = progress.valued();
-    let e = polynom::evaluate(a, x1);
+    let y1 = polynom::value(a, x1);
+    if stop.found(y1) {
+        return by_value(Sample { x: x1, y: y1 }, counted);
+    }
+    let e = polynom::kept(x1, y1);
     let Evaluated::At(p) = e else {
         return ended(Answer::Refused(9), counted);
     };

@@ -5,15 +5,17 @@ use numerical::Progress;
 use numerical::Sample;
 use polynom::Evaluated;
 use simple_convergency::StopRule;
+ghost use mathlib.Core.Bool.{false};
 ghost use mathlib.Core.Path.{_≡_};
 ghost use mathlib.Core.List.{List};
 ghost use Prim.Native.Nat.{_≤_};
 ghost use lib.Ieee.{Float};
 ghost use Rattle.numerical.specs.Tallies.{Room};
 ghost use Rattle.numerical.specs.declared.Answer.the-variants.{ByValue};
+ghost use Rattle.simple_convergency.specs.Stop.{foundAt};
 ghost use Rattle.searching.specs.Programs.{ended, next, oracle, play, tallied};
 ghost use Rattle.searching.specs.LoopLaws.{runOf};
-ghost use Rattle.secant.specs.Secant.{secondAt, firstAt, opening, candidateOf, arrived, landed, turnFrom, secant, viewed};
+ghost use Rattle.secant.specs.Secant.{firstAt, opening, candidateOf, arrived, landed, turnFrom, secant, viewed};
 
 // The two last points.
 pub struct Secant {
@@ -64,39 +66,40 @@ fn by_value(s: Sample, progress: Progress) -> Turn
 
 // ---- the opening
 
-// The second start was evaluated: it is found, or both starts are kept.
-fn second_at(stop: StopRule, first: Sample, second: Sample, progress: Progress) -> Turn
-    ensures { λ r. ⌜ ((cs : List Float) → viewed r ≡ play tallied (oracle cs) (secondAt stop first second) progress) ⌝ }
-{
-    if stop.found(second.y) {
-        return by_value(second, progress);
-    }
-    goes_on(Secant { first, second }, progress)
-}
-
-// The first start was evaluated: it is found, or the second is evaluated.
+// The first start isn't found, and the second is evaluated: it is found, or both are kept. What is found is finite, so found is tested first.
 fn first_at(a: &[f64], stop: StopRule, second: f64, p: Sample, progress: Progress) -> Turn
-    requires { ⌜ Room 1 progress ⌝ }
+    requires { ⌜ Room 1 progress × (foundAt stop (p .y) ≡ false) ⌝ }
     ensures { λ r. ⌜ viewed r ≡ play tallied (oracle (now (a .entry))) (firstAt stop second p) progress ⌝ }
 {
-    if stop.found(p.y) {
-        return by_value(p, progress);
-    }
     let counted = progress.valued();
-    let e = polynom::evaluate(a, second);
+    let y2 = polynom::value(a, second);
+    if stop.found(y2) {
+        return by_value(Sample { x: second, y: y2 }, counted);
+    }
+    let e = polynom::kept(second, y2);
     let Evaluated::At(q) = e else {
         return ended(Answer::Refused(9), counted);
     };
-    second_at(stop, p, q, counted)
+    goes_on(
+        Secant {
+            first: p,
+            second: q,
+        },
+        counted,
+    )
 }
 
-// The first start is evaluated.
+// The first start is evaluated: it is found, or the second is evaluated too.
 fn opened(a: &[f64], stop: StopRule, first: f64, second: f64, progress: Progress) -> Turn
     requires { ⌜ Room 2 progress ⌝ }
     ensures { λ r. ⌜ viewed r ≡ play tallied (oracle (now (a .entry))) (opening stop first second) progress ⌝ }
 {
     let counted = progress.valued();
-    let e = polynom::evaluate(a, first);
+    let y1 = polynom::value(a, first);
+    if stop.found(y1) {
+        return by_value(Sample { x: first, y: y1 }, counted);
+    }
+    let e = polynom::kept(first, y1);
     let Evaluated::At(p) = e else {
         return ended(Answer::Refused(9), counted);
     };

@@ -1,63 +1,44 @@
--- `polynom::value` meets its contract. The loop's invariant: result and xn are those of the coefficients passed, from i on. Assumes nothing.
-use mathlib.Core.Logic.{⊎-elim}
-use mathlib.Core.Path.{_≡_}
-use Prim.Native.Nat.{_≤_}
-use native.Mathlib.Omega.{arith}
+-- `polynom::value` meets its contract. The loop's invariant: the coefficients from `left` on are summed. Assumes nothing.
 use borrow.Author.Needs.{needs}
+use native.Mathlib.Omega.{arith}
+use Prim.Native.Nat.{_≤_}
+use mathlib.Core.Path.{_≡_}
 use lib.ListN.{length, drop}
 use Rattle.polynom.specs.Polynom.{sums, value}
-use Rattle.polynom.specs.Terms.{sums-none, sums-more}
+use Rattle.polynom.specs.Terms.{pair-left}
 use Rattle.polynom.proofs.value.Statement.{statement}
 use Rattle.polynom.proofs.value.Tie as tie
 
 abbrev Inv-loop : tie.InvT-loop
-Inv-loop a x result₀ xn₀ i₀ result xn i = (i ≤ length a) × (sums (drop i a) x ≡ record { result = result; xn = xn })
+Inv-loop a x sum₀ left₀ sum left = (left ≤ length a) × (sums (drop left a) x ≡ sum)
 
 abbrev μ-loop : tie.MeasureT-loop
-μ-loop a x result₀ xn₀ i₀ result xn i = i
+μ-loop a x sum₀ left₀ sum left = left
 
-sub-i : tie.Need-sub-i Inv-loop μ-loop
-sub-i c = search needs
-
-mul-result : tie.Need-mul-result Inv-loop μ-loop
-mul-result c = omega arith
-
-shared-slice-read-result : tie.Need-shared-slice-read-result Inv-loop μ-loop
-shared-slice-read-result c = omega arith
+begun-requires : tie.Need-begun-requires Inv-loop μ-loop
+begun-requires c κs = search needs
 
 loop-holds : tie.Need-loop-holds Inv-loop μ-loop
-loop-holds c =
-    let a = c .before .args .a .now in
-    let x = c .before .args .x in
-    ⊎-elim
-    (λ w. rw (w .2, w .3, w .4) (omega arith, sums-more a x (length a) _ (omega (arith, w .0 .taken)) (omega arith) (sums-none a x)))
-    (λ w. rw (w .1, w .2, w .3) (omega arith, sums-none a x))
-    (c .if1 .came)
+loop-holds c = search needs
 
-sub-i-2 : tie.Need-sub-i-2 Inv-loop μ-loop
-sub-i-2 c = search needs
+sub-left : tie.Need-sub-left Inv-loop μ-loop
+sub-left c = search needs
 
-mul-result-2 : tie.Need-mul-result-2 Inv-loop μ-loop
-mul-result-2 c = omega arith
-
-shared-slice-read-result-2 : tie.Need-shared-slice-read-result-2 Inv-loop μ-loop
-shared-slice-read-result-2 c = omega arith
+two-more-requires : tie.Need-two-more-requires Inv-loop μ-loop
+two-more-requires c κs = let l = c .before .loop in pair-left _ _ (l .left) _ (omega arith) (l .inv .0) (l .inv .1)
 
 loop-less : tie.Need-loop-less Inv-loop μ-loop
 loop-less c = omega arith
 
 loop-again : tie.Need-loop-again Inv-loop μ-loop
-loop-again c =
-    let t = c .before .before .before in
-    (omega arith, sums-more (t .before .before .args .a .now) (t .before .before .args .x) (t .loop .i) _ (omega arith) (omega arith) (t .loop .inv .1))
+loop-again c = (omega arith, search needs)
+
+completed-requires : tie.Need-completed-requires Inv-loop μ-loop
+completed-requires c κs = (omega arith, c .before .loop .inv)
 
 returns : tie.Need-returns Inv-loop μ-loop
 unfolding value
-returns c =
-    let t = c .before in
-    let z : t .loop .i ≡ 0 = omega arith in
-    let e : sums (t .before .before .args .a .now) (t .before .before .args .x) ≡ record { result = t .loop .result; xn = t .loop .xn } = rw z at (t .loop .inv .1) in
-    rw e
+returns c = rw (c .before .completed .ensures)
 
 pub value-spec : {M : Type 1} → statement M
 value-spec =
@@ -65,13 +46,11 @@ value-spec =
     (tie.spec
     Inv-loop
     μ-loop
-    sub-i
-    mul-result
-    shared-slice-read-result
+    begun-requires
     loop-holds
-    sub-i-2
-    mul-result-2
-    shared-slice-read-result-2
+    sub-left
+    two-more-requires
     loop-less
     loop-again
+    completed-requires
     returns)

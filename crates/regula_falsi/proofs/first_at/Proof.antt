@@ -1,8 +1,14 @@
-use Rattle.regula_falsi.specs.RegulaFalsi.{firstAt}
-use Rattle.searching.specs.StepLaws.{steps}
+use Rattle.searching.specs.StepLaws.{found-first, missed-first, by-known-missed}
+use Rattle.regula_falsi.specs.RegulaFalsi.{secondAt, firstAt}
 use borrow.Author.Needs.{needs}
 use Rattle.regula_falsi.proofs.first_at.Statement.{statement}
 use Rattle.regula_falsi.proofs.first_at.Tie as tie
+
+valued-requires : tie.Need-valued-requires
+valued-requires c κs = search needs
+
+value-requires : tie.Need-value-requires
+value-requires c κs = search needs
 
 found-requires : tie.Need-found-requires
 found-requires c κs = search needs
@@ -11,14 +17,11 @@ by-value-requires : tie.Need-by-value-requires
 by-value-requires c κs = search needs
 
 returns : tie.Need-returns
-unfolding firstAt
-returns c = search steps
+unfolding firstAt secondAt
+returns c = search (found-first, by-known-missed)
 
-valued-requires : tie.Need-valued-requires
-valued-requires c κs = search needs
-
-evaluate-requires : tie.Need-evaluate-requires
-evaluate-requires c κs = search needs
+kept-requires : tie.Need-kept-requires
+kept-requires c κs = search needs
 
 enum-known-e : tie.Need-enum-known-e
 enum-known-e c = search needs
@@ -31,24 +34,25 @@ ended-requires c κs = search needs
 
 returns-2 : tie.Need-returns-2
 unfolding firstAt
-returns-2 c = search steps
+returns-2 c = search missed-first
 
 second-at-requires : tie.Need-second-at-requires
-second-at-requires c κs = search needs
+second-at-requires c κs = search missed-first
 
 returns-3 : tie.Need-returns-3
 unfolding firstAt
-returns-3 c = search (steps, c .second-at .ensures)
+returns-3 c = search (missed-first, c .second-at .ensures)
 
 pub first-at-spec : {M : Type 1} → statement M
 first-at-spec =
     tie.close
     (tie.spec
+    valued-requires
+    value-requires
     found-requires
     by-value-requires
     returns
-    valued-requires
-    evaluate-requires
+    kept-requires
     enum-known-e
     enum-told
     ended-requires
