@@ -1,8 +1,9 @@
-// The same calls through the proved archive and through the crate roots 0.0.8, timed side by side.
+// The same calls through the proved archive and through the crate roots 0.0.8, as it is and made to tell as much, timed side by side.
 mod calls;
 mod sides;
+mod told;
 
-use calls::{calls_of, Call, COUNTS, METHODS, ROWS};
+use calls::{calls_of, Call, Method, COUNTS, METHODS, ROWS};
 use sides::{checked, summed, Side};
 use std::process::exit;
 
@@ -51,11 +52,12 @@ fn batch(side: Side, calls: &[Call], passes: usize, expected: u64) -> f64 {
 struct Cell {
     proved: f64,
     rust: f64,
+    telling: Option<f64>,
     values: f64,
     derivatives: f64,
 }
 
-// Nanoseconds per call: the least over all repetitions, the two sides in turn.
+// Nanoseconds per call: the least over all repetitions, the sides in turn.
 fn measured(calls: &[Call]) -> Cell {
     let mut expected = 0u64;
     let mut values = 0;
@@ -66,28 +68,35 @@ fn measured(calls: &[Call]) -> Cell {
         values += tallies[1];
         derivatives += tallies[2];
     }
-    let sides = [Side::Proved, Side::Rust];
-    let mut least = [f64::INFINITY; 2];
-    let passes = sides.map(|side| {
-        let once = (0..5).map(|_| batch(side, calls, 4, expected) / 4.0).fold(f64::INFINITY, f64::min);
-        (BATCH_NANOSECONDS / once).ceil() as usize
-    });
+    let sides: &[Side] = match calls[0].method {
+        Method::Polynom => &[Side::Proved, Side::Rust],
+        _ => &[Side::Proved, Side::Rust, Side::Telling],
+    };
+    let mut least = [f64::INFINITY; 3];
+    let passes: Vec<usize> = sides
+        .iter()
+        .map(|side| {
+            let once = (0..5).map(|_| batch(*side, calls, 4, expected) / 4.0).fold(f64::INFINITY, f64::min);
+            (BATCH_NANOSECONDS / once).ceil() as usize
+        })
+        .collect();
     for _ in 0..REPETITIONS {
-        for i in 0..2 {
-            let taken = batch(sides[i], calls, passes[i], expected) / passes[i] as f64;
+        for (i, side) in sides.iter().enumerate() {
+            let taken = batch(*side, calls, passes[i], expected) / passes[i] as f64;
             least[i] = least[i].min(taken);
         }
     }
     let n = calls.len() as f64;
-    Cell { proved: least[0] / n, rust: least[1] / n, values: values as f64 / n, derivatives: derivatives as f64 / n }
+    let telling = (sides.len() > 2).then_some(least[2] / n);
+    Cell { proved: least[0] / n, rust: least[1] / n, telling, values: values as f64 / n, derivatives: derivatives as f64 / n }
 }
 
 fn tables() {
     println!("ns: the least of {REPETITIONS} batches of {} ms of thread time", BATCH_NANOSECONDS / 1e6);
     for row in ROWS {
         println!("\n## {}\n", row.words());
-        println!("| Method | coefficients | calls | values | derivatives | proved, ns | Rust, ns | ratio |");
-        println!("|---|--:|--:|--:|--:|--:|--:|--:|");
+        println!("| Method | coefficients | calls | values | derivatives | proved, ns | Rust, ns | ratio | Rust telling, ns | ratio |");
+        println!("|---|--:|--:|--:|--:|--:|--:|--:|--:|--:|");
         let mut ratios = Vec::new();
         for method in METHODS {
             let mut of_method = Vec::new();
@@ -99,8 +108,12 @@ fn tables() {
                 }
                 let cell = measured(&calls);
                 let ratio = cell.proved / cell.rust;
+                let telling = match cell.telling {
+                    Some(time) => format!("{time:.1} | {:.2}", cell.proved / time),
+                    None => "- | -".to_string(),
+                };
                 println!(
-                    "| {} | {count} | {} | {:.1} | {:.1} | {:.1} | {:.1} | {ratio:.2} |",
+                    "| {} | {count} | {} | {:.1} | {:.1} | {:.1} | {:.1} | {ratio:.2} | {telling} |",
                     method.words(),
                     calls.len(),
                     cell.values,
@@ -128,6 +141,7 @@ fn one_cell(words: &[String]) -> Option<()> {
     let side = match side.as_str() {
         "proved" => Side::Proved,
         "rust" => Side::Rust,
+        "telling" => Side::Telling,
         _ => return None,
     };
     for _ in 0..passes.parse::<usize>().ok()? {
@@ -143,7 +157,7 @@ fn main() {
         None => tables(),
         Some("--cell") => {
             if one_cell(&words[1..]).is_none() {
-                fail("--cell search|at-once|refused METHOD COUNT proved|rust PASSES");
+                fail("--cell search|at-once|refused METHOD COUNT proved|rust|telling PASSES");
             }
         }
         Some(_) => fail("bench [--cell ..]"),

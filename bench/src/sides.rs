@@ -2,13 +2,17 @@
 
 use crate::calls::{Call, Method};
 use crate::fail;
+use crate::told::telling;
 use roots::{find_root_brent, find_root_newton_raphson, find_root_regula_falsi, find_root_secant};
 use roots::{Interval, Polynom, Sample, SearchError, SimpleConvergency};
+use std::mem::MaybeUninit;
 
-#[derive(Clone, Copy)]
+#[derive(Clone, Copy, PartialEq)]
 pub enum Side {
     Proved,
     Rust,
+    // The Rust made to tell what the proved side tells.
+    Telling,
 }
 
 // As include/roots.h says.
@@ -26,6 +30,7 @@ extern "C" {
     ) -> u64;
 }
 
+// The buffers of a call are left as they are before it: the function writes all of them.
 pub struct Answer {
     pub kind: u64,
     pub numbers: [f64; 3],
@@ -34,11 +39,12 @@ pub struct Answer {
 
 #[inline(always)]
 pub fn proved(call: &Call) -> Answer {
-    let mut answer = Answer { kind: 0, numbers: [0.0; 3], tallies: [0; 4] };
+    let mut answer = MaybeUninit::<Answer>::uninit();
+    let at = answer.as_mut_ptr();
     let a = call.coefficients();
-    // SAFETY: the pointers are to live memory of the lengths that the function is told or writes, and nothing is kept.
-    answer.kind = unsafe {
-        roots_search(
+    // SAFETY: the pointers are to live memory of the lengths that the function is told or writes, nothing is kept, and all is written.
+    unsafe {
+        (*at).kind = roots_search(
             a.as_ptr(),
             a.len(),
             call.method as u64,
@@ -46,11 +52,11 @@ pub fn proved(call: &Call) -> Answer {
             call.second,
             call.eps,
             call.limit,
-            answer.numbers.as_mut_ptr(),
-            answer.tallies.as_mut_ptr(),
-        )
-    };
-    answer
+            (*at).numbers.as_mut_ptr(),
+            (*at).tallies.as_mut_ptr(),
+        );
+        answer.assume_init()
+    }
 }
 
 fn rule(eps: f64, limit: u64) -> SimpleConvergency<f64> {
@@ -104,6 +110,17 @@ pub fn rust(call: &Call) -> Result<f64, SearchError> {
     rust_by(call.method, call)
 }
 
+// Whether the Rust made to tell has the same kind, the same bits, and the same counts. It isn't asked of a step that nudges.
+fn tells_the_same(call: &Call, answer: &Answer) -> bool {
+    let Some(told) = telling(call.method, call) else { return true };
+    let bits = |numbers: &[f64; 3]| numbers.map(f64::to_bits);
+    let nudged = call.method == Method::Newton && answer.kind == 17;
+    told.kind == answer.kind
+        && bits(&told.numbers) == bits(&answer.numbers)
+        && (nudged || told.tallies[0] == answer.tallies[0])
+        && told.tallies[1..] == answer.tallies[1..]
+}
+
 // A root's bits, or an error's number.
 #[inline(always)]
 fn number_of_rust(result: Result<f64, SearchError>) -> u64 {
@@ -132,12 +149,34 @@ pub fn checked(call: &Call) -> (u64, [u64; 4]) {
     if answer.tallies[3] != 0 || one != other || (answer.kind < 10) != rust(call).is_ok() {
         fail(&format!("the sides differ: {one:016x} {other:016x} {call:?}"));
     }
+    if !tells_the_same(call, &answer) {
+        fail(&format!("the Rust tells something else: {call:?}"));
+    }
     (one, answer.tallies)
 }
 
 #[inline(never)]
 fn summed_proved(calls: &[Call]) -> u64 {
     calls.iter().fold(0, |sum: u64, call| sum.wrapping_add(number_of_proved(&proved(call))))
+}
+
+#[inline(never)]
+fn summed_telling(calls: &[Call]) -> u64 {
+    macro_rules! all {
+        ($method:expr) => {
+            calls.iter().fold(0, |sum: u64, call| match telling($method, call) {
+                Some(answer) => sum.wrapping_add(number_of_proved(&answer)),
+                None => sum,
+            })
+        };
+    }
+    match calls[0].method {
+        Method::Brent => all!(Method::Brent),
+        Method::Illinois => all!(Method::Illinois),
+        Method::Secant => all!(Method::Secant),
+        Method::Newton => all!(Method::Newton),
+        Method::Polynom => all!(Method::Polynom),
+    }
 }
 
 // The method is picked before the loop.
@@ -162,5 +201,6 @@ pub fn summed(side: Side, calls: &[Call]) -> u64 {
     match side {
         Side::Proved => summed_proved(calls),
         Side::Rust => summed_rust(calls),
+        Side::Telling => summed_telling(calls),
     }
 }

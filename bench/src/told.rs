@@ -1,0 +1,145 @@
+// The crate roots 0.0.8 made to tell what the proved side tells: the call is checked, values are counted and must be finite,
+// and the reason, the tallies and all numbers are written. It has no mark, pulls no point and checks no candidate, so it still
+// does less. The polynomial search has no closure to count in, and is left out.
+
+use crate::calls::{Call, Method};
+use crate::sides::Answer;
+use roots::{find_root_brent, find_root_newton_raphson, find_root_regula_falsi, find_root_secant};
+use roots::{Convergency, Polynom, SearchError};
+use std::cell::Cell;
+
+// The test that was made last is the one that ended the search.
+#[derive(Clone, Copy)]
+enum Last {
+    Value(f64),
+    Width(f64, f64),
+}
+
+struct Telling {
+    eps: f64,
+    limit: u64,
+    steps: u64,
+    last: Last,
+}
+
+impl Convergency<f64> for Telling {
+    #[inline(always)]
+    fn is_root_found(&mut self, y: f64) -> bool {
+        self.last = Last::Value(y);
+        y.abs() < self.eps
+    }
+    #[inline(always)]
+    fn is_converged(&mut self, x1: f64, x2: f64) -> bool {
+        self.last = Last::Width(x1, x2);
+        (x1 - x2).abs() < self.eps
+    }
+    #[inline(always)]
+    fn is_iteration_limit_reached(&mut self, iter: usize) -> bool {
+        self.steps = iter as u64;
+        iter as u64 >= self.limit
+    }
+}
+
+#[inline(always)]
+fn refusal(call: &Call, second: f64) -> u64 {
+    let count = call.coefficients().len();
+    if count == 0 || count > 16 {
+        1
+    } else if !call.first.is_finite() || !second.is_finite() {
+        3
+    } else if !call.eps.is_finite() || call.eps < 4.909093465297727e-91 {
+        4
+    } else if call.limit > 400 {
+        5
+    } else {
+        0
+    }
+}
+
+// 2 goes before 3 to 5 and before a 9 that a coefficient leads to.
+fn refused(a: &[f64], number: u64, tallies: [u64; 4]) -> Answer {
+    let looked = number != 1 && number != 6 && number != 7 && number != 8;
+    if looked && a.iter().any(|c| !c.is_finite()) {
+        return Answer { kind: 12, numbers: [0.0; 3], tallies: [0; 4] };
+    }
+    Answer { kind: 10 + number, numbers: [0.0; 3], tallies }
+}
+
+#[inline(always)]
+fn told(a: &[f64], result: Result<f64, SearchError>, telling: Telling, counts: [u64; 2], finite: bool) -> Answer {
+    let tallies = [telling.steps, counts[0], counts[1], 0];
+    if !finite {
+        return refused(a, 9, tallies);
+    }
+    match (result, telling.last) {
+        (Ok(root), Last::Value(value)) => Answer { kind: 0, numbers: [root, value, 0.0], tallies },
+        (Ok(root), Last::Width(p, q)) => Answer { kind: 1, numbers: [root, p, q], tallies },
+        (Err(SearchError::NoBracketing), _) => refused(a, 6, tallies),
+        (Err(SearchError::ZeroDerivative), _) => refused(a, 7, tallies),
+        (Err(SearchError::NoConvergency), _) => refused(a, 8, tallies),
+    }
+}
+
+// One search by a method whose closure gives values only.
+macro_rules! by_values {
+    ($name:ident, $search:ident) => {
+        #[inline(never)]
+        fn $name(call: &Call) -> Answer {
+            let a = call.coefficients();
+            let number = refusal(call, call.second);
+            if number != 0 {
+                return refused(a, number, [0; 4]);
+            }
+            let (values, finite) = (Cell::new(0), Cell::new(true));
+            let value = |x: f64| {
+                values.set(values.get() + 1);
+                let y = a.value(&x);
+                finite.set(finite.get() & y.is_finite());
+                y
+            };
+            let mut telling = Telling { eps: call.eps, limit: call.limit, steps: 0, last: Last::Value(0.0) };
+            let result = $search(call.first, call.second, value, &mut telling);
+            told(a, result, telling, [values.get(), 0], finite.get())
+        }
+    };
+}
+
+by_values!(brent, find_root_brent);
+by_values!(illinois, find_root_regula_falsi);
+by_values!(secant, find_root_secant);
+
+#[inline(never)]
+fn newton(call: &Call) -> Answer {
+    let a = call.coefficients();
+    let number = refusal(call, call.first);
+    if number != 0 {
+        return refused(a, number, [0; 4]);
+    }
+    let (values, derivatives, finite) = (Cell::new(0), Cell::new(0), Cell::new(true));
+    let value = |x: f64| {
+        values.set(values.get() + 1);
+        let y = a.value(&x);
+        finite.set(finite.get() & y.is_finite());
+        y
+    };
+    let derivative = |x: f64| {
+        derivatives.set(derivatives.get() + 1);
+        let slope = a.value_and_derivative(&x).derivative;
+        finite.set(finite.get() & slope.is_finite());
+        slope
+    };
+    let mut telling = Telling { eps: call.eps, limit: call.limit, steps: 0, last: Last::Value(0.0) };
+    let result = find_root_newton_raphson(call.first, value, derivative, &mut telling);
+    told(a, result, telling, [values.get(), derivatives.get()], finite.get())
+}
+
+#[inline(always)]
+pub fn telling(method: Method, call: &Call) -> Option<Answer> {
+    match method {
+        Method::Brent => Some(brent(call)),
+        Method::Illinois => Some(illinois(call)),
+        Method::Secant => Some(secant(call)),
+        Method::Newton => Some(newton(call)),
+        Method::Polynom => None,
+    }
+}
