@@ -107,7 +107,7 @@ pub fn value(a: &[f64], x: f64) -> f64
     all.result + all.xn
 }
 
-// The value, with the derivative beside it, in the same way. The next power is begun before this one is used up, which is faster.
+// The value, with the derivative beside it, a term at a time and the first before the loop. The next power is begun before this one is used up, which is faster.
 pub fn value_and_derivative(a: &[f64], x: f64) -> ValueAndDerivative
     ensures { λ r. ⌜ r ≡ valueAndDerivative (now (a .entry)) x ⌝ }
 {
