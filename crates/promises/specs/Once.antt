@@ -15,7 +15,7 @@ use Rattle.numerical.specs.declared.Progress.{Progress}
 use Rattle.numerical.specs.declared.Sample.{Sample}
 use Rattle.simple_convergency.specs.Stop.{checkedOf, foundAt, convergedAt, turnsOf}
 use Rattle.simple_convergency.specs.declared.StopRule.{StopRule}
-use Rattle.polynom.specs.Polynom.{value, valueAndDerivative, evaluated, evaluatedBoth}
+use Rattle.polynom.specs.Polynom.{value, valueAndDerivative, kept, evaluated, evaluatedBoth}
 use Rattle.searching.specs.Rules.{placedIn, alikeBy, inOrder}
 use Rattle.brent.specs.Brent.{brent}
 use Rattle.regula_falsi.specs.RegulaFalsi.{regulaFalsi}
@@ -101,6 +101,9 @@ value-once a x = fixed _
 
 pub value-and-derivative-once : (a : List Float) (x : Float) → Fixed (valueAndDerivative a x)
 value-and-derivative-once a x = fixed _
+
+pub kept-once : (x y : Float) → Fixed (kept x y)
+kept-once x y = fixed _
 
 pub evaluate-once : (a : List Float) (x : Float) → Fixed (evaluated a x)
 evaluate-once a x = fixed _
