@@ -24,43 +24,17 @@ pub sums-none : (a : List Float) (x : Float) (n : ℕ) → n ≡ length a → su
 unfolding sums
 sums-none a x n e = rw (e, drop-length)
 
+-- the same sum, where the index is told in another way
+pub sums-at : (a : List Float) (x : Float) {s : Sum} (m n : ℕ) → m ≡ n → sums (drop m a) x ≡ s → sums (drop n a) x ≡ s
+sums-at a x m n e h = rw (← e) h
+
 pub sums-more : (a : List Float) (x : Float) (i : ℕ) (s : Sum) → i < length a → sums (drop (1 + i) a) x ≡ s → sums (drop i a) x ≡ summed x (getD a i nan) s
 unfolding sums
-sums-more a x i s h e =
-    let same : 1 + i ≡ suc i = omega arith in
-    rw (drop-cons a i nan h, rw same at e)
-
--- the second last of two terms, and then the last
-pub two-left : (a : List Float) (x : Float) (i : ℕ) (s : Sum) → 1 + i < length a → sums (drop (2 + i) a) x ≡ s → (i + 1 < length a) × (sums (drop (1 + (i + 1)) a) x ≡ s)
-two-left a x i s h e =
-    let same : 2 + i ≡ 1 + (i + 1) = omega arith in
-    (omega arith, rw same at e)
-
-pub one-left : (a : List Float) (x : Float) (i : ℕ) (s : Sum) → 1 + i < length a → sums (drop (i + 1) a) x ≡ s → (i < length a) × (sums (drop (1 + i) a) x ≡ s)
-one-left a x i s h e =
-    let same : i + 1 ≡ 1 + i = omega arith in
-    (omega arith, rw same at e)
+sums-more a x i s h e = rw (drop-cons a i nan h, sums-at a x (1 + i) (suc i) (omega arith) e)
 
 -- the coefficients from `left` on are summed
 abbrev pub Passed : List Float → Float → Summed → Type 0
 Passed a x s = (s .left ≤ length a) × (sums (drop (s .left) a) x ≡ s .sum)
-
--- two or more are left
-pub pair-left : (a : List Float) (x : Float) (left : ℕ) (s : Sum) → 1 < left → left ≤ length a → sums (drop left a) x ≡ s → (1 + (left - 2) < length a) × (sums (drop (2 + (left - 2)) a) x ≡ s)
-pair-left a x left s p h e =
-    let same : left ≡ 2 + (left - 2) = omega arith in
-    (omega arith, rw same at e)
-
--- the first coefficient alone is left, or none
-pub first-left : (a : List Float) (x : Float) (s : Summed) → 0 < s .left → s .left ≤ 1 → Passed a x s → (0 < length a) × (sums (drop 1 a) x ≡ s .sum)
-first-left a x s p q h =
-    let one : s .left ≡ 1 = omega arith in
-    (omega arith, rw one at (h .1))
-
-pub none-left : (a : List Float) (x : Float) (s : Summed) → s .left ≤ 0 → Passed a x s → sums a x ≡ s .sum
-none-left a x s p h =
-    let none : s .left ≡ 0 = omega arith in
-    rw none at (h .1)
 
 pub sums-both-none : (a : List Float) (x : Float) → sumsBoth (drop (length a) a) x ≡ nothingSummedBoth
 unfolding sumsBoth

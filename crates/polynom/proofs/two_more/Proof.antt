@@ -1,7 +1,8 @@
 -- `polynom::two_more` meets its contract. Assumes nothing.
 use borrow.Author.Needs.{needs}
 use native.Mathlib.Omega.{arith}
-use Rattle.polynom.specs.Terms.{two-left, one-left}
+use Prim.Native.Nat.{_+_}
+use Rattle.polynom.specs.Terms.{sums-at}
 use Rattle.polynom.proofs.two_more.Statement.{statement}
 use Rattle.polynom.proofs.two_more.Tie as tie
 
@@ -9,10 +10,14 @@ add-one-more : tie.Need-add-one-more
 add-one-more c = search needs
 
 one-more-requires : tie.Need-one-more-requires
-one-more-requires c κs = two-left _ _ _ _ (c .before .pre .0) (c .before .pre .1)
+one-more-requires c κs =
+    let i = c .before .args .i in
+    (omega arith, sums-at _ _ (2 + i) (1 + (i + 1)) (omega arith) (c .before .pre .1))
 
 one-more-requires-2 : tie.Need-one-more-requires-2
-one-more-requires-2 c κs = one-left _ _ _ _ (c .before .before .pre .0) (c .one-more .ensures)
+one-more-requires-2 c κs =
+    let i = c .before .before .args .i in
+    (omega arith, sums-at _ _ (i + 1) (1 + i) (omega arith) (c .one-more .ensures))
 
 returns : tie.Need-returns
 returns c = search needs

@@ -1,11 +1,11 @@
 -- `polynom::value` meets its contract. The loop's invariant: the coefficients from `left` on are summed. Assumes nothing.
 use borrow.Author.Needs.{needs}
 use native.Mathlib.Omega.{arith}
-use Prim.Native.Nat.{_≤_}
+use Prim.Native.Nat.{_+_, _-_, _≤_}
 use mathlib.Core.Path.{_≡_}
 use lib.ListN.{length, drop}
 use Rattle.polynom.specs.Polynom.{sums, value}
-use Rattle.polynom.specs.Terms.{pair-left}
+use Rattle.polynom.specs.Terms.{sums-at}
 use Rattle.polynom.proofs.value.Statement.{statement}
 use Rattle.polynom.proofs.value.Tie as tie
 
@@ -25,7 +25,9 @@ sub-left : tie.Need-sub-left Inv-loop μ-loop
 sub-left c = search needs
 
 two-more-requires : tie.Need-two-more-requires Inv-loop μ-loop
-two-more-requires c κs = let l = c .before .loop in pair-left _ _ (l .left) _ (omega arith) (l .inv .0) (l .inv .1)
+two-more-requires c κs =
+    let l = c .before .loop in
+    (omega arith, sums-at _ _ (l .left) (2 + (l .left - 2)) (omega arith) (l .inv .1))
 
 loop-less : tie.Need-loop-less Inv-loop μ-loop
 loop-less c = omega arith
