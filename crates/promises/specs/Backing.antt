@@ -370,5 +370,5 @@ two-marks a from to eps limit = subst (λ (o : Outcome). ZeroOrTwo (o .progress 
     m = RegulaFalsi from to
 
     go : (k : ℕ) → atOnce a m eps limit ≡ k → ZeroOrTwo (byNumber a m eps limit k .progress .mark)
-    go zero z = let p = passed a m eps limit z in subst ZeroOrTwo (sym (mark-at a _)) (at-answer a _ (regula-falsi-marks a (ruleOf eps limit) (p .good-eps) (p .in-range) from to))
+    go zero z = let p = passed a m eps limit z in subst ZeroOrTwo (sym (mark-at a _)) (at-answer a _ (regula-falsi-marks a (ruleOf eps limit) (p .good-eps) (omega (arith, p .in-range)) from to))
     go (suc k) z = inl refl
