@@ -17,7 +17,7 @@ use lib.Ieee.Fits.{kept-lt, and-i, and-l, and-r, down-pos}
 use lib.Ieee.Bits.{is-true, is-false, ofBits-toBits, toBits-ofBits, toBits-lt, ofBits-fits, nanBits-above}
 use lib.Ieee.Scale.{finite}
 use borrow.Author.Tests.{not-true, eqb-false, le-ltb, lt-ltb, le-leb, lt-leb, leb-true, leb-false, ne-eqb}
-use Rattle.doubles.specs.Doubles.{nought, signed63, orderOf, patternOf, ofOrder}
+use Rattle.doubles.specs.Doubles.{nought, absolute, signed63, orderOf, patternOf, ofOrder}
 use Rattle.doubles.specs.Compare.{Like, same-test, of-true, below-like, below-scaled, finite-num, lt-not-le, eq-both}
 
 -- ---- finite, by the exponent's bits
@@ -332,3 +332,18 @@ finite-compared nan p = refl
 finite-compared (inf true) p = refl
 finite-compared (inf false) p = refl
 finite-compared (fin s m e) p = sym (finite-ends (fin s m e) (record { is-finite = tt; is-held = p }))
+
+-- A double is finite just when its size is at most the largest.
+pub finite-by-size : (x : Float) → T (fits binary64 x) → finite x ≡ le (absolute x) largest
+unfolding absolute le ofBits ofFields odd neg
+finite-by-size nan p = refl
+finite-by-size (inf true) p = refl
+finite-by-size (inf false) p = refl
+finite-by-size (fin s m e) p = go (lt (fin s m e) nought)
+  where
+    at-most : (t : Bool) → true ≡ le (fin t m e) largest
+    at-most t = sym (is-true (le (fin t m e) largest) (and-r (le (neg largest) (fin t m e)) (le (fin t m e) largest) (of-true _ (finite-ends (fin t m e) (record { is-finite = tt; is-held = flip s t m e p })))))
+
+    go : (b : Bool) → true ≡ le (cond b (neg (fin s m e)) (fin s m e)) largest
+    go true = at-most (not s)
+    go false = at-most s

@@ -20,6 +20,13 @@ pub fn abs(x: f64) -> f64
     if x < 0.0 { -x } else { x }
 }
 
+// Whether x is finite, told by its size and not by its bits: faster where the size is asked for too.
+pub fn is_finite_by_size(x: f64) -> bool
+    ensures { λ r. ⌜ r ≡ finite x ⌝ }
+{
+    abs(x) <= 1.7976931348623157e308
+}
+
 pub fn is_above(x: f64) -> bool
     ensures { λ r. ⌜ r ≡ above x ⌝ }
 {

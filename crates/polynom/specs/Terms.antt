@@ -2,7 +2,7 @@
 use mathlib.Core.Bool.{false}
 use mathlib.Core.Path.{_≡_, refl, ap, _∙_}
 use mathlib.Core.List.{List, [], _∷_}
-use Prim.Native.Nat.{ℕ, suc, _+_, _-_, _≤_, _<_}
+use Prim.Native.Nat.{ℕ, suc, _+_, _-_, _%_, _≤_, _<_}
 use native.Mathlib.Omega.{arith}
 use lib.ListN.{length, drop, getD}
 use lib.Seq.{drop-cons, drop-length}
@@ -32,9 +32,9 @@ pub sums-more : (a : List Float) (x : Float) (i : ℕ) (s : Sum) → i < length 
 unfolding sums
 sums-more a x i s h e = rw (drop-cons a i nan h, sums-at a x (1 + i) (suc i) (omega arith) e)
 
--- the coefficients from `left` on are summed
+-- the coefficients from `left` on are summed, and those before are an even number
 abbrev pub Passed : List Float → Float → Summed → Type 0
-Passed a x s = (s .left ≤ length a) × (sums (drop (s .left) a) x ≡ s .sum)
+Passed a x s = (s .left ≤ length a) × (s .left % 2 ≡ 0) × (sums (drop (s .left) a) x ≡ s .sum)
 
 pub sums-both-none : (a : List Float) (x : Float) → sumsBoth (drop (length a) a) x ≡ nothingSummedBoth
 unfolding sumsBoth

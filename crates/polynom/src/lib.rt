@@ -1,7 +1,7 @@
 // The polynomial x^n + a[0]x^(n-1) + .. + a[n-1] over lent coefficients: its value, its derivative, and evaluation with a check.
 use numerical::Sample;
 ghost use mathlib.Core.Path.{_≡_};
-ghost use Prim.Native.Nat.{_≤_, _<_, _+_};
+ghost use Prim.Native.Nat.{_<_, _+_};
 ghost use lib.ListN.{length, drop};
 ghost use Rattle.polynom.specs.Polynom.{sums, value, valueAndDerivative, kept, evaluated, keptBoth, evaluatedBoth};
 ghost use Rattle.polynom.specs.Terms.{Passed};
@@ -12,7 +12,7 @@ pub struct Sum {
     pub xn: f64,
 }
 
-// The sum of the coefficients from `left` on.
+// The sum of the coefficients from `left` on, an even number.
 pub struct Summed {
     pub sum: Sum,
     pub left: usize,
@@ -55,7 +55,7 @@ fn two_more(a: &[f64], x: f64, i: usize, after: Sum) -> Sum
     one_more(a, x, i, one_more(a, x, i + 1, after))
 }
 
-// The last one or two coefficients. They stand before the loop, where the compiler drops what 1.0 multiplies.
+// The last coefficient or the last two, so that an even number is left. They stand before the loop, where the compiler drops what 1.0 multiplies.
 fn begun(a: &[f64], x: f64) -> Summed
     ensures { λ r. ⌜ Passed (now (a .entry)) x r ⌝ }
 {
@@ -64,31 +64,18 @@ fn begun(a: &[f64], x: f64) -> Summed
         xn: 1.0,
     };
     let n = a.len();
-    if n > 1 {
+    if n % 2 == 1 {
+        Summed {
+            sum: one_more(a, x, n - 1, none),
+            left: n - 1,
+        }
+    } else if n > 0 {
         Summed {
             sum: two_more(a, x, n - 2, none),
             left: n - 2,
         }
-    } else if n > 0 {
-        Summed {
-            sum: one_more(a, x, 0, none),
-            left: 0,
-        }
     } else {
         Summed { sum: none, left: 0 }
-    }
-}
-
-// The first coefficient, if it is left.
-fn completed(a: &[f64], x: f64, s: Summed) -> Sum
-    requires { ⌜ (s .left ≤ 1) × Passed (now a) x s ⌝ }
-    ensures { λ r. ⌜ sums (now (a .entry)) x ≡ r ⌝ }
-{
-    let sum = s.sum;
-    if s.left > 0 {
-        one_more(a, x, 0, sum)
-    } else {
-        sum
     }
 }
 
@@ -99,12 +86,11 @@ pub fn value(a: &[f64], x: f64) -> f64
     let first = begun(a, x);
     let mut sum = first.sum;
     let mut left = first.left;
-    while left > 1 {
+    while left > 0 {
         left -= 2;
         sum = two_more(a, x, left, sum);
     }
-    let all = completed(a, x, Summed { sum, left });
-    all.result + all.xn
+    sum.result + sum.xn
 }
 
 // The value, with the derivative beside it, a term at a time and the first before the loop. The next power is begun before this one is used up, which is faster.
@@ -146,7 +132,7 @@ pub fn value_and_derivative(a: &[f64], x: f64) -> ValueAndDerivative
 pub fn kept(x: f64, y: f64) -> Evaluated
     ensures { λ r. ⌜ r ≡ kept x y ⌝ }
 {
-    if doubles::is_finite(y) {
+    if doubles::is_finite_by_size(y) {
         Evaluated::At(Sample { x, y })
     } else {
         Evaluated::NotFinite
@@ -164,8 +150,8 @@ pub fn evaluate(a: &[f64], x: f64) -> Evaluated
 fn kept_both(v: ValueAndDerivative) -> EvaluatedBoth
     ensures { λ r. ⌜ r ≡ keptBoth v ⌝ }
 {
-    if doubles::is_finite(v.value.y) {
-        if doubles::is_finite(v.derivative) {
+    if doubles::is_finite_by_size(v.value.y) {
+        if doubles::is_finite_by_size(v.derivative) {
             EvaluatedBoth::Both(v)
         } else {
             EvaluatedBoth::NotBothFinite

@@ -197,7 +197,7 @@ fn narrow(a: &[f64], stop: StopRule, i: Interval, progress: Progress) -> Turn
     ensures { λ r. ⌜ viewed r ≡ play tallied (oracle (now (a .entry))) (narrowing stop i) progress ⌝ }
 {
     let x = i.middle();
-    if doubles::is_finite(x) {
+    if doubles::is_finite_by_size(x) {
         let u = i.begin.x;
         let v = i.end.x;
         let placed = searching::pull(u, v, x, progress);

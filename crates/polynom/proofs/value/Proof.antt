@@ -1,16 +1,16 @@
--- `polynom::value` meets its contract. The loop's invariant: the coefficients from `left` on are summed. Assumes nothing.
+-- `polynom::value` meets its contract. The loop's invariant: the coefficients from `left` on are summed, and an even number is left. Assumes nothing.
 use borrow.Author.Needs.{needs}
 use native.Mathlib.Omega.{arith}
 use Prim.Native.Nat.{_+_, _-_, _≤_}
 use mathlib.Core.Path.{_≡_}
 use lib.ListN.{length, drop}
 use Rattle.polynom.specs.Polynom.{sums, value}
-use Rattle.polynom.specs.Terms.{sums-at}
+use Rattle.polynom.specs.Terms.{Passed, sums-at}
 use Rattle.polynom.proofs.value.Statement.{statement}
 use Rattle.polynom.proofs.value.Tie as tie
 
 abbrev Inv-loop : tie.InvT-loop
-Inv-loop a x sum₀ left₀ sum left = (left ≤ length a) × (sums (drop left a) x ≡ sum)
+Inv-loop a x sum₀ left₀ sum left = Passed a x (record { sum = sum; left = left })
 
 abbrev μ-loop : tie.MeasureT-loop
 μ-loop a x sum₀ left₀ sum left = left
@@ -22,25 +22,22 @@ loop-holds : tie.Need-loop-holds Inv-loop μ-loop
 loop-holds c = search needs
 
 sub-left : tie.Need-sub-left Inv-loop μ-loop
-sub-left c = search needs
+sub-left c = omega (arith, c .before .loop .inv .1)
 
 two-more-requires : tie.Need-two-more-requires Inv-loop μ-loop
 two-more-requires c κs =
     let l = c .before .loop in
-    (omega arith, sums-at _ _ (l .left) (2 + (l .left - 2)) (omega arith) (l .inv .1))
+    (omega (arith, l .inv .1), sums-at _ _ (l .left) (2 + (l .left - 2)) (omega (arith, l .inv .1)) (l .inv .2))
 
 loop-less : tie.Need-loop-less Inv-loop μ-loop
 loop-less c = omega arith
 
 loop-again : tie.Need-loop-again Inv-loop μ-loop
-loop-again c = (omega arith, search needs)
-
-completed-requires : tie.Need-completed-requires Inv-loop μ-loop
-completed-requires c κs = (omega arith, c .before .loop .inv)
+loop-again c = (omega arith, omega (arith, c .before .before .loop .inv .1), search needs)
 
 returns : tie.Need-returns Inv-loop μ-loop
 unfolding value
-returns c = rw (c .before .completed .ensures)
+returns c = let l = c .before .before .loop in rw (sums-at _ _ (l .left) 0 (omega arith) (l .inv .2))
 
 pub value-spec : {M : Type 1} → statement M
 value-spec =
@@ -54,5 +51,4 @@ value-spec =
     two-more-requires
     loop-less
     loop-again
-    completed-requires
     returns)

@@ -9,8 +9,8 @@ use Rattle.polynom_search.proofs.narrow.Tie as tie
 middle-requires : tie.Need-middle-requires
 middle-requires c κs = search needs
 
-is-finite-requires : tie.Need-is-finite-requires
-is-finite-requires c κs = search needs
+is-finite-by-size-requires : tie.Need-is-finite-by-size-requires
+is-finite-by-size-requires c κs = search needs
 
 pull-requires : tie.Need-pull-requires
 pull-requires c κs = search needs
@@ -34,7 +34,7 @@ narrow-spec =
     tie.close
     (tie.spec
     middle-requires
-    is-finite-requires
+    is-finite-by-size-requires
     pull-requires
     converged-or-requires
     ended-requires
