@@ -1,17 +1,16 @@
 -- At every state of a run of Brent's method the samples of the pair came from evaluations, so the code may keep them.
 use mathlib.Core.Bool.{Bool}
 use mathlib.Core.List.{List, []}
-use mathlib.Core.Path.{_≡_, ap, sym, _∙_, subst}
+use mathlib.Core.Path.{_≡_, ap, _∙_}
 use lib.Ieee.{Float}
+use Rattle.numerical.specs.declared.Answer.{Answer}
 use Rattle.numerical.specs.declared.Progress.{Progress}
 use Rattle.numerical.specs.declared.Sample.{Sample}
 use Rattle.polynom.specs.Polynom.{evaluated}
 use Rattle.polynom.specs.declared.Evaluated.the-variants.{At}
 use Rattle.simple_convergency.specs.declared.StopRule.{StopRule}
-use Rattle.searching.specs.Programs.{Prog, Turned, ended, next, narrowsTo, oracle, Event, play, tallied}
-use Rattle.searching.specs.Histories.{listed}
-use Rattle.searching.specs.ProgramLaws.{play-end}
-use Rattle.searching.specs.Keeps.{Ends, ends-done, ends-log, ends-test, ends-stops, ends-pulled, ends-value, ends-offered, ends-bracketed, ends-narrows}
+use Rattle.searching.specs.Programs.{Prog, Turned, narrowsTo, oracle, Event, play, tallied}
+use Rattle.searching.specs.Keeps.{Ends, After, state-there, ends-done, ends-log, ends-test, ends-stops, ends-pulled, ends-value, ends-offered, ends-bracketed, ends-narrows}
 use Rattle.searching.specs.ReasonLaws.{answered-at}
 use Rattle.brent.specs.Brent.{Evaluations, arrange, pairOf, startOf, opened, secondAt, firstAt, opening, nextOf, keptA, keptB, arrived, landed, pulledIn, stepWith, stepFrom, turnFrom, seen}
 use Rattle.brent.specs.BrentKeeps.{either-way}
@@ -20,19 +19,9 @@ use Rattle.brent.specs.declared.Brent.{Brent}
 use Rattle.brent.specs.declared.To.{To}
 use Rattle.brent.specs.declared.To.the-variants.{Next}
 
--- what holds of the state where a turn leads
-abbrev AtState : {S : Type 0} → (S → Type 0) → Turned S → Type 0
-AtState P (ended a) = Unit {0}
-AtState P (next s) = P s
-
 module _ (cs : List Float) where
   abbrev Knows : Prog (Turned Brent) → List Event → Type 0
-  Knows g h = Ends (oracle cs) (λ r i. AtState (Evaluations cs) r) g h
-
-  -- what a play of the code's book ends at
-  known-there : (g : Prog (Turned Brent)) (p : Progress) {q : Progress} {s : Brent} → Knows g [] → (next s, q) ≡ play tallied (oracle cs) g p → Evaluations cs s
-  known-there g p k e =
-      subst (AtState (Evaluations cs)) (play-end listed tallied (oracle cs) g [] p ∙ sym (ap (λ (r : Turned Brent × Progress). r .0) e)) (k .there)
+  Knows g h = Ends (oracle cs) (After (λ (s : Brent) (i : List Event). Evaluations cs s) (λ (a : Answer) (i : List Event). Unit {0})) g h
 
   -- an answered sample is the value at its own point
   own : (x : Float) (p : Sample) → evaluated cs x ≡ At p → evaluated cs (p .x) ≡ At p
@@ -78,7 +67,7 @@ module _ (cs : List Float) where
 -- where the code's opening or turn leads to a state, that state's samples came from evaluations
 module _ (cs : List Float) (stop : StopRule) (p : Progress) {q : Progress} {t : To} {s : Brent} (to : t ≡ Next s) where
   pub evaluations-first : (from to : Float) → (seen t, q) ≡ play tallied (oracle cs) (opening stop from to) p → Evaluations cs s
-  evaluations-first first last e = known-there cs _ p (knows-opening cs stop first last) (rw to at e)
+  evaluations-first first last e = state-there cs _ p (knows-opening cs stop first last) (rw to at e) .1
 
   pub evaluations-next : (before : Brent) → (seen t, q) ≡ play tallied (oracle cs) (turnFrom stop before) p → Evaluations cs s
-  evaluations-next before e = known-there cs _ p (knows-turn cs stop before) (rw to at e)
+  evaluations-next before e = state-there cs _ p (knows-turn cs stop before) (rw to at e) .1

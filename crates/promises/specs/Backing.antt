@@ -47,6 +47,7 @@ use Rattle.newton_raphson.specs.NewtonRaphsonLaws.{newton-raphson-values, newto
 use Rattle.polynom_search.specs.PolynomSearch.{polynomSearch}
 use Rattle.polynom_search.specs.PolynomSearchKeeps.{polynom-search-ends}
 use Rattle.polynom_search.specs.PolynomSearchLaws.{polynom-search-values, polynom-search-derivatives}
+use Rattle.roots.specs.CallLaws.{first-of, both-of}
 use Rattle.roots.specs.Calls.{badCount, allFinite, startsOf, foundBy, foundUnder, answer}
 use Rattle.roots.specs.declared.Method.{Method}
 use Rattle.roots.specs.declared.Method.the-variants.{Brent, RegulaFalsi, Secant, NewtonRaphson, Polynom}
@@ -125,19 +126,8 @@ at-answer a {Q} g e = subst (λ (x : Answer). Q x (play listed (oracle a) g [] .
 start-double : (x : Float) → T (fits binary64 x) → finite x ≡ true → Double x
 start-double x f e = record { is-finite = rw e tt; is-held = f }
 
-one-finite : (x : Float) (rest : List Float) → allFinite (x ∷ rest) ≡ true → (finite x ≡ true) × (allFinite rest ≡ true)
-unfolding allFinite
-one-finite x rest e = go (finite x) refl e
-  where
-    go : (b : Bool) → finite x ≡ b → cond b (allFinite rest) false ≡ true → (finite x ≡ true) × (allFinite rest ≡ true)
-    go true f e = (f, e)
-    go false f e = absurd (true≢false (sym e))
-
-two-finite : (x y : Float) → allFinite (x ∷ y ∷ []) ≡ true → (finite x ≡ true) × (finite y ≡ true)
-two-finite x y e = let f = one-finite x (y ∷ []) e in (f .0, one-finite y [] (f .1) .0)
-
 two-doubles : (x y : Float) → Held (x ∷ y ∷ []) → allFinite (x ∷ y ∷ []) ≡ true → Double x × Double y
-two-doubles x y d e = let f = two-finite x y e in (start-double x (d .0) (f .0), start-double y (d .1 .0) (f .1))
+two-doubles x y d e = let f = both-of x y e in (start-double x (d .0) (f .0), start-double y (d .1 .0) (f .1))
 
 module _ (a : List Float) (m : Method) (eps : Float) (limit : ℕ) (z : atOnce a m eps limit ≡ 0) where
   told-answer : answer a m eps limit ≡ answerOf a (programOf (ruleOf eps limit) m)
@@ -183,8 +173,8 @@ module _ (a : List Float) (stop : StopRule) (good : above (stop .eps) ≡ true) 
   reason-at : (m : Method) → Held (startsOf m) → allFinite (startsOf m) ≡ true → Reason a stop (mostSteps a stop m) (answerOf a (programOf stop m) .answer) (history (oracle a) (programOf stop m))
   reason-at (Brent from to) d e = at-answer a _ (bracket-at (Brent from to) from to (refl, refl) d e) .reason
   reason-at (RegulaFalsi from to) d e = at-answer a _ (bracket-at (RegulaFalsi from to) from to (refl, refl) d e) .reason
-  reason-at (Secant first second) d e = let w = two-finite first second e in at-answer a _ (secant-ends a stop first second (w .0) (w .1)) .reason
-  reason-at (NewtonRaphson start) d e = at-answer a _ (newton-raphson-ends a stop start (one-finite start [] e .0)) .reason
+  reason-at (Secant first second) d e = let w = both-of first second e in at-answer a _ (secant-ends a stop first second (w .0) (w .1)) .reason
+  reason-at (NewtonRaphson start) d e = at-answer a _ (newton-raphson-ends a stop start (first-of start [] e .0)) .reason
   reason-at (Polynom from to) d e = at-answer a _ (bracket-at (Polynom from to) from to (refl, refl) d e) .reason
 
 -- ---- what a reason says
@@ -356,10 +346,10 @@ module _ (a : List Float) (m : Method) (eps : Float) (limit : ℕ) where
 
 pub plain-secant : (a : List Float) (first second eps : Float) (limit : ℕ) → PlainlyOf (answer a (Secant first second) eps limit)
 plain-secant a first second eps limit =
-    plain-at a (Secant first second) eps limit (λ e. let w = two-finite first second e in (_, at-answer a _ (secant-ends a (ruleOf eps limit) first second (w .0) (w .1))))
+    plain-at a (Secant first second) eps limit (λ e. let w = both-of first second e in (_, at-answer a _ (secant-ends a (ruleOf eps limit) first second (w .0) (w .1))))
 
 pub plain-newton : (a : List Float) (start eps : Float) (limit : ℕ) → PlainlyOf (answer a (NewtonRaphson start) eps limit)
-plain-newton a start eps limit = plain-at a (NewtonRaphson start) eps limit (λ e. (_, at-answer a _ (newton-raphson-ends a (ruleOf eps limit) start (one-finite start [] e .0))))
+plain-newton a start eps limit = plain-at a (NewtonRaphson start) eps limit (λ e. (_, at-answer a _ (newton-raphson-ends a (ruleOf eps limit) start (first-of start [] e .0))))
 
 -- ---- Illinois: mark 0 or 2
 
@@ -370,5 +360,5 @@ two-marks a from to eps limit = subst (λ (o : Outcome). ZeroOrTwo (o .progress 
     m = RegulaFalsi from to
 
     go : (k : ℕ) → atOnce a m eps limit ≡ k → ZeroOrTwo (byNumber a m eps limit k .progress .mark)
-    go zero z = let p = passed a m eps limit z in subst ZeroOrTwo (sym (mark-at a _)) (at-answer a _ (regula-falsi-marks a (ruleOf eps limit) (p .good-eps) (omega (arith, p .in-range)) from to))
+    go zero z = let p = passed a m eps limit z in subst ZeroOrTwo (sym (mark-at a _)) (at-answer a _ (regula-falsi-marks a (ruleOf eps limit) (p .good-eps) (omega (arith, p .in-range)) from to (both-of from to (p .starts-finite) .0) (both-of from to (p .starts-finite) .1)))
     go (suc k) z = inl refl

@@ -5,17 +5,19 @@ use numerical::Progress;
 use numerical::Sample;
 use polynom::Evaluated;
 use simple_convergency::StopRule;
-ghost use mathlib.Core.Bool.{false};
+ghost use mathlib.Core.Bool.{true, false};
 ghost use mathlib.Core.Path.{_≡_};
 ghost use mathlib.Core.List.{List};
 ghost use Prim.Native.Nat.{_≤_};
 ghost use lib.Ieee.{Float};
+ghost use lib.Ieee.Scale.{finite};
 ghost use Rattle.numerical.specs.Tallies.{Room};
 ghost use Rattle.numerical.specs.declared.Answer.the-variants.{ByValue};
-ghost use Rattle.simple_convergency.specs.Stop.{foundAt};
-ghost use Rattle.searching.specs.Programs.{ended, next, log, narrowsTo, oracle, play, ruled, tallied};
+ghost use Rattle.simple_convergency.specs.Stop.{badEps, foundAt};
+ghost use Rattle.searching.specs.Programs.{ended, next, offered, oracle, play, tallied};
 ghost use Rattle.searching.specs.LoopLaws.{runOf};
-ghost use Rattle.regula_falsi.specs.RegulaFalsi.{halved, pairOf, secondAt, firstAt, ordered, opening, candidateOf, rightAfter, leftAfter, leftReplaced, rightReplaced, elsewhere, departsFrom, arrived, landed, pulledIn, turnFrom, regulaFalsi, viewed};
+ghost use Rattle.regula_falsi.specs.RegulaFalsiWeights.{Heavy, Sound};
+ghost use Rattle.regula_falsi.specs.RegulaFalsi.{halved, pairOf, secondAt, firstAt, ordered, opening, candidateOf, rightAfter, leftAfter, leftReplaced, rightReplaced, arrived, landed, pulledIn, turnFrom, regulaFalsi, viewed};
 
 // An end of the pair: its sample, and the value that the chord is drawn with.
 pub struct End {
@@ -209,54 +211,24 @@ fn right_replaced(s: Illinois, p: Sample) -> Illinois
     }
 }
 
-// Whether the Rust's two tests of products, made in turn, lead elsewhere than the test of signs.
-fn elsewhere(same: bool, first: bool, second: bool) -> bool
-    ensures { λ r. ⌜ r ≡ elsewhere same first second ⌝ }
-{
-    if same {
-        !first
-    } else if first {
-        true
-    } else {
-        !second
-    }
-}
-
-// Whether the Rust, which multiplies with the weights, would replace another end: other than the left one if the sample has the same sign as that.
-fn departs_from(same: bool, s: Illinois, p: Sample) -> bool
-    ensures { λ r. ⌜ r ≡ departsFrom same s p ⌝ }
-{
-    let first = doubles::is_above(p.y * s.left.weight);
-    let second = doubles::is_above(p.y * s.right.weight);
-    elsewhere(same, first, second)
-}
-
-// A step to this state, with rule 1's mark where the Rust would have gone to another.
-fn stepped_to(state: Illinois, departed: bool, p: Progress) -> Turn
-    requires { ⌜ Room 1 p ⌝ }
-    ensures { λ r. ⌜ ((cs : List Float) → viewed r ≡ play tallied (oracle cs) (log (ruled 1 departed) (narrowsTo pairOf state)) p) ⌝ }
-{
-    goes_on(state, p.ruled(1, departed).stepped())
-}
-
-// The sample at the candidate is found, or it takes the place of the end whose sign it shares.
+// The sample at the candidate is found, or it takes the place of the end whose sign it shares. The product with the left weight tells the sign, and rule 1 has nothing to mark: that is proved of each state.
 fn arrived(stop: StopRule, s: Illinois, sample: Sample, p: Progress) -> Turn
-    requires { ⌜ Room 1 p ⌝ }
+    requires { ⌜ Room 1 p × Sound stop s × (finite (sample .y) ≡ true) ⌝ }
     ensures { λ r. ⌜ ((cs : List Float) → viewed r ≡ play tallied (oracle cs) (arrived stop s sample) p) ⌝ }
 {
     if stop.found(sample.y) {
         return by_value(sample, p);
     }
-    if doubles::same_sign(sample.y, s.left.at.y) {
-        stepped_to(left_replaced(s, sample), departs_from(true, s, sample), p)
+    if doubles::is_above(sample.y * s.left.weight) {
+        goes_on(left_replaced(s, sample), p.stepped())
     } else {
-        stepped_to(right_replaced(s, sample), departs_from(false, s, sample), p)
+        goes_on(right_replaced(s, sample), p.stepped())
     }
 }
 
 // The pair is small enough and x is the answer, or x is evaluated.
 fn landed(a: &[f64], stop: StopRule, s: Illinois, x: f64, p: Progress) -> Turn
-    requires { ⌜ Room 2 p ⌝ }
+    requires { ⌜ Room 2 p × Sound stop s ⌝ }
     ensures { λ r. ⌜ viewed r ≡ play tallied (oracle (now (a .entry))) (landed stop s x) p ⌝ }
 {
     let x1 = s.left.at.x;
@@ -281,7 +253,7 @@ fn landed(a: &[f64], stop: StopRule, s: Illinois, x: f64, p: Progress) -> Turn
 
 // A candidate outside the pair becomes the nearer end.
 fn pulled_in(a: &[f64], stop: StopRule, s: Illinois, x: f64, p: Progress) -> Turn
-    requires { ⌜ Room 2 p ⌝ }
+    requires { ⌜ Room 2 p × Sound stop s ⌝ }
     ensures { λ r. ⌜ viewed r ≡ play tallied (oracle (now (a .entry))) (pulledIn stop s x) p ⌝ }
 {
     let x1 = s.left.at.x;
@@ -290,12 +262,11 @@ fn pulled_in(a: &[f64], stop: StopRule, s: Illinois, x: f64, p: Progress) -> Tur
     landed(a, stop, s, placed.x, placed.progress)
 }
 
-// One step: the candidate is refused if it isn't finite.
-fn take_turn(a: &[f64], stop: StopRule, s: Illinois, p: Progress) -> Turn
-    requires { ⌜ Room 3 p ⌝ }
-    ensures { λ r. ⌜ viewed r ≡ play tallied (oracle (now (a .entry))) (turnFrom stop s) p ⌝ }
+// Any candidate: it is refused if it isn't finite, and pulled.
+fn offered(a: &[f64], stop: StopRule, s: Illinois, x: f64, p: Progress) -> Turn
+    requires { ⌜ Room 3 p × Sound stop s ⌝ }
+    ensures { λ r. ⌜ viewed r ≡ play tallied (oracle (now (a .entry))) (offered x (pulledIn stop s)) p ⌝ }
 {
-    let x = candidate(s);
     if doubles::is_finite_by_size(x) {
         pulled_in(a, stop, s, x, p)
     } else {
@@ -303,11 +274,26 @@ fn take_turn(a: &[f64], stop: StopRule, s: Illinois, p: Progress) -> Turn
     }
 }
 
+// One step. A candidate that lies from the left end up to the right one is finite and not pulled, and most do.
+fn take_turn(a: &[f64], stop: StopRule, s: Illinois, p: Progress) -> Turn
+    requires { ⌜ Room 3 p × Sound stop s ⌝ }
+    ensures { λ r. ⌜ viewed r ≡ play tallied (oracle (now (a .entry))) (turnFrom stop s) p ⌝ }
+{
+    let x = candidate(s);
+    let x1 = s.left.at.x;
+    let x2 = s.right.at.x;
+    if doubles::is_between(x1, x2, x) {
+        landed(a, stop, s, x, p)
+    } else {
+        offered(a, stop, s, x, p)
+    }
+}
+
 // ---- the search
 
 // From a state on: a step at a time, until an end or the limit.
 fn searched(a: &[f64], stop: StopRule, begun: Illinois, progress: Progress, most: u64) -> Outcome
-    requires { ⌜ (most ≤ 400) × Room 2000 progress ⌝ }
+    requires { ⌜ (most ≤ 400) × Room 2000 progress × Heavy stop most begun × (badEps (stop .eps) ≡ false) × (stop .limit ≤ 400) ⌝ }
     ensures { λ r. ⌜ r ≡ runOf (now (a .entry)) (turnFrom stop) most begun progress ⌝ }
 {
     let mut s = begun;
@@ -332,9 +318,9 @@ fn searched(a: &[f64], stop: StopRule, begun: Illinois, progress: Progress, most
     }
 }
 
-// A root by the Illinois form of regula falsi between two starts: the opening, and the steps from there.
+// A root by the Illinois form of regula falsi between two finite starts, under a rule that was checked: the opening, and the steps from there.
 pub fn find_root(a: &[f64], stop: StopRule, from: f64, to: f64) -> Outcome
-    requires { ⌜ stop .limit ≤ 400 ⌝ }
+    requires { ⌜ (stop .limit ≤ 400) × (badEps (stop .eps) ≡ false) × (finite from ≡ true) × (finite to ≡ true) ⌝ }
     ensures { λ r. ⌜ r ≡ regulaFalsi (now (a .entry)) stop from to ⌝ }
 {
     let turn = opened(a, stop, from, to, Progress::fresh());

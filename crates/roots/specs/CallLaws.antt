@@ -2,7 +2,7 @@
 use Prim.Native.Nat.{ℕ, _+_, _≤_, _<_}
 use native.Mathlib.Numerals.{add-one}
 use native.Mathlib.Omega.{arith}
-use mathlib.Core.Bool.{Bool, true, false, cond}
+use mathlib.Core.Bool.{Bool, true, false, cond, true≢false}
 use mathlib.Core.List.{List, [], _∷_}
 use mathlib.Core.Path.{_≡_, refl, ap, sym, _∙_}
 use lib.ListN.{length, drop, getD}
@@ -64,3 +64,16 @@ one-finite x e = e ∙ go (finite x)
 
 pub by-method : {r : Outcome} (a : List Float) (stop : StopRule) (m : Method) {n : Method} → m ≡ n → r ≡ foundBy a stop n → r ≡ foundBy a stop m
 by-method a stop m e k = rw e k
+
+-- ---- where all are finite, each is
+
+pub first-of : (x : Float) (rest : List Float) → allFinite (x ∷ rest) ≡ true → (finite x ≡ true) × (allFinite rest ≡ true)
+unfolding allFinite
+first-of x rest e = go (finite x) refl e
+  where
+    go : (b : Bool) → finite x ≡ b → cond b (allFinite rest) false ≡ true → (finite x ≡ true) × (allFinite rest ≡ true)
+    go true f e = (f, e)
+    go false f e = absurd (true≢false (sym e))
+
+pub both-of : (x y : Float) → allFinite (x ∷ y ∷ []) ≡ true → (finite x ≡ true) × (finite y ≡ true)
+both-of x y e = let f = first-of x (y ∷ []) e in (f .0, first-of y [] (f .1) .0)

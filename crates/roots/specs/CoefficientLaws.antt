@@ -31,10 +31,28 @@ use Rattle.regula_falsi.specs.RegulaFalsi as illinois
 use Rattle.secant.specs.Secant as secant
 use Rattle.newton_raphson.specs.NewtonRaphson as newton
 use Rattle.polynom_search.specs.PolynomSearch as polynom
+use Rattle.roots.specs.CallLaws.{both-of}
 use Rattle.roots.specs.Calls.{badCount, allFinite, startsOf, foundBy, foundUnder, answer}
 use Rattle.roots.specs.Coefficients.{checkOf, refusedBefore, opens, leavesOpen, afterLook, lookedAt}
 use Rattle.roots.specs.declared.Method.{Method}
 use Rattle.roots.specs.declared.Method.the-variants.{Brent, RegulaFalsi, Secant, NewtonRaphson, Polynom}
+
+-- a call that was checked: its limit and eps are in range, and its starts are finite
+pub record Checking (stop : StopRule) (m : Method) : Type 0 where
+  pub few-steps : stop .limit ≤ 400
+  pub good-eps : badEps (stop .eps) ≡ false
+  pub finite-starts : allFinite (startsOf m) ≡ true
+
+-- both starts of an Illinois search are finite
+module _ {stop : StopRule} {m : Method} (c : Checking stop m) {x y : Float} (e : m ≡ RegulaFalsi x y) where
+  starts : (finite x ≡ true) × (finite y ≡ true)
+  starts = both-of x y (rw e at (c .finite-starts))
+
+  pub first-finite : finite x ≡ true
+  first-finite = starts .0
+
+  pub second-finite : finite y ≡ true
+  second-finite = starts .1
 
 -- ---- a search whose first evaluation gives no sample is refused with 9
 
@@ -117,15 +135,19 @@ module _ (a : List Float) (m : Method) (eps : Float) (limit : ℕ) where
     pub by-refusal : {n : ℕ} → c ≡ Refused n → r ≡ refusedBefore a n → r ≡ answer a m eps limit
     by-refusal k g = g ∙ ap (lookedAt a m) (sym k ∙ e) ∙ looked
 
-  -- a rule that passed the check keeps to the greatest limit
-  pub limit-kept : {c : Checked} {stop : StopRule} → c ≡ checkOf (length a) m eps limit → c ≡ Rule stop → stop .limit ≤ 400
+  -- what a call that passed the check keeps to
+  pub checking : {c : Checked} {stop : StopRule} → c ≡ checkOf (length a) m eps limit → c ≡ Rule stop → Checking stop m
   unfolding checkOf
-  limit-kept {c = c} {stop = stop} e k = go (badCount (length a)) (allFinite (startsOf m)) (sym e ∙ k)
+  checking {c = c} {stop = stop} e k = go (badCount (length a)) (allFinite (startsOf m)) refl (sym e ∙ k)
     where
-      go : (b s : Bool) → cond b (Refused 1) (cond s (checkedOf eps limit) (Refused 3)) ≡ Rule stop → stop .limit ≤ 400
-      go true s z = absurd (let q : _≡_ {A = ℕ} 0 1 = cc in omega arith)
-      go false false z = absurd (let q : _≡_ {A = ℕ} 0 1 = cc in omega arith)
-      go false true z = let p = passed eps limit stop z in let s = p .same-limit in let l = p .in-range in omega arith
+      go : (b s : Bool) → allFinite (startsOf m) ≡ s → cond b (Refused 1) (cond s (checkedOf eps limit) (Refused 3)) ≡ Rule stop → Checking stop m
+      go true s f z = absurd (let q : _≡_ {A = ℕ} 0 1 = cc in omega arith)
+      go false false f z = absurd (let q : _≡_ {A = ℕ} 0 1 = cc in omega arith)
+      go false true f z =
+          let p = passed eps limit stop z in
+          let s = p .same-limit in
+          let l = p .in-range in
+          record { few-steps = omega arith; good-eps = rw (p .same-eps) (p .good-eps); finite-starts = f }
 
 -- by the answer's variant
 pub by-nine : {b : Bool} {n : ℕ} (r : Answer) → r ≡ answered.Refused n → b ≡ opens n → b ≡ leavesOpen r

@@ -5,9 +5,9 @@ use simple_convergency::Checked;
 use simple_convergency::StopRule;
 ghost use mathlib.Core.Path.{_≡_};
 ghost use mathlib.Core.List.{[], _∷_};
-ghost use Prim.Native.Nat.{_≤_};
 ghost use Rattle.roots.specs.Calls.{badCount, allFinite, startsOf, foundBy, answer, plainLimit};
 ghost use Rattle.roots.specs.Coefficients.{checkOf, refusedBefore, leavesOpen, afterLook};
+ghost use Rattle.roots.specs.CoefficientLaws.{Checking};
 
 // A method with its starts.
 pub enum Method {
@@ -67,9 +67,9 @@ fn starts_finite(method: Method) -> bool
     }
 }
 
-// The method's own search.
+// The method's own search, for a call that was checked.
 fn found_by(a: &[f64], stop: StopRule, method: Method) -> Outcome
-    requires { ⌜ stop .limit ≤ 400 ⌝ }
+    requires { ⌜ Checking stop method ⌝ }
     ensures { λ r. ⌜ r ≡ foundBy (now (a .entry)) stop method ⌝ }
 {
     match method {

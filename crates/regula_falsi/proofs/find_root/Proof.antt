@@ -1,6 +1,7 @@
 use Rattle.numerical.specs.TallyLaws.{room}
 use Rattle.searching.specs.LoopLaws.{opened-room}
 use Rattle.regula_falsi.specs.RegulaFalsiLaws.{from-end, from-state, small-opening}
+use Rattle.regula_falsi.specs.RegulaFalsiMarks.{heavy-first}
 use native.Mathlib.Omega.{arith}
 use borrow.Author.Needs.{needs}
 use Rattle.regula_falsi.proofs.find_root.Statement.{statement}
@@ -22,7 +23,8 @@ turns-requires : tie.Need-turns-requires
 turns-requires c κs = search needs
 
 searched-requires : tie.Need-searched-requires
-searched-requires c κs = (omega (arith, c .turns .ensures), search (opened-room, small-opening))
+searched-requires c κs =
+    (omega (arith, c .turns .ensures), search (opened-room, small-opening), search heavy-first, search needs, search needs)
 
 returns : tie.Need-returns
 returns c = search from-end

@@ -1,5 +1,6 @@
 use Rattle.regula_falsi.specs.RegulaFalsi.{landed}
 use Rattle.searching.specs.StepLaws.{steps}
+use Rattle.searching.specs.ReasonLaws.{matched-finite}
 use Rattle.numerical.specs.TallyLaws.{room}
 use borrow.Author.Needs.{needs}
 use Rattle.regula_falsi.proofs.landed.Statement.{statement}
@@ -35,7 +36,7 @@ unfolding landed
 returns-2 c = search steps
 
 arrived-requires : tie.Need-arrived-requires
-arrived-requires c κs = search (needs, room)
+arrived-requires c κs = (search (needs, room), search needs, search matched-finite)
 
 returns-3 : tie.Need-returns-3
 unfolding landed

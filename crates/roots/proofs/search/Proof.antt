@@ -1,4 +1,4 @@
-use Rattle.roots.specs.CoefficientLaws.{by-rule, by-refusal, limit-kept}
+use Rattle.roots.specs.CoefficientLaws.{by-rule, by-refusal, checking}
 use borrow.Author.Needs.{needs}
 use Rattle.roots.proofs.search.Statement.{statement}
 use Rattle.roots.proofs.search.Tie as tie
@@ -10,7 +10,7 @@ enum-known-checked : tie.Need-enum-known-checked
 enum-known-checked c = search needs
 
 found-by-requires : tie.Need-found-by-requires
-found-by-requires c κs = search limit-kept
+found-by-requires c κs = search checking
 
 after-look-requires : tie.Need-after-look-requires
 after-look-requires c κs = search needs

@@ -1,0 +1,12 @@
+-- `doubles::is_between` meets its contract. Assumes nothing.
+use Rattle.doubles.proofs.is_between.Statement.{statement}
+use Rattle.doubles.proofs.is_between.Tie as tie
+
+returns : tie.Need-returns
+returns c = rw (c .if1 .taken)
+
+returns-2 : tie.Need-returns-2
+returns-2 c = rw (c .if1 .left)
+
+pub is-between-spec : {M : Type 1} → statement M
+is-between-spec = tie.close (tie.spec returns returns-2)
