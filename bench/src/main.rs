@@ -3,12 +3,14 @@ mod calls;
 mod sides;
 mod told;
 
-use calls::{calls_of, Call, Method, COUNTS, METHODS, ROWS};
+use calls::{calls_of, Call, Method, Row, COUNTS, METHODS, ROWS};
 use sides::{checked, summed, Side};
 use std::process::exit;
 
-const REPETITIONS: usize = 41;
-const BATCH_NANOSECONDS: f64 = 10e6;
+// Every cell is timed in each round, so that a slow spell of the machine does not fall on one cell only.
+const ROUNDS: usize = 20;
+const BATCHES: usize = 20;
+const BATCH_NANOSECONDS: f64 = 1e6;
 
 #[repr(C)]
 struct Time {
@@ -50,84 +52,117 @@ fn batch(side: Side, calls: &[Call], passes: usize, expected: u64) -> f64 {
 }
 
 struct Cell {
-    proved: f64,
-    rust: f64,
-    telling: Option<f64>,
+    row: Row,
+    method: Method,
+    count: usize,
+    calls: Vec<Call>,
+    expected: u64,
     values: f64,
     derivatives: f64,
+    passes: Vec<usize>,
+    // Nanoseconds for all calls, by side: the least batch of all rounds.
+    least: [f64; 3],
 }
 
-// Nanoseconds per call: the least over all repetitions, the sides in turn.
-fn measured(calls: &[Call]) -> Cell {
-    let mut expected = 0u64;
-    let mut values = 0;
-    let mut derivatives = 0;
-    for call in calls {
-        let (sum, tallies) = checked(call);
-        expected = expected.wrapping_add(sum);
-        values += tallies[1];
-        derivatives += tallies[2];
-    }
-    let sides: &[Side] = match calls[0].method {
+fn sides_of(method: Method) -> &'static [Side] {
+    match method {
         Method::Polynom => &[Side::Proved, Side::Rust],
         _ => &[Side::Proved, Side::Rust, Side::Telling],
-    };
-    let mut least = [f64::INFINITY; 3];
-    let passes: Vec<usize> = sides
-        .iter()
-        .map(|side| {
-            let once = (0..5).map(|_| batch(*side, calls, 4, expected) / 4.0).fold(f64::INFINITY, f64::min);
-            (BATCH_NANOSECONDS / once).ceil() as usize
-        })
-        .collect();
-    for _ in 0..REPETITIONS {
-        for (i, side) in sides.iter().enumerate() {
-            let taken = batch(*side, calls, passes[i], expected) / passes[i] as f64;
-            least[i] = least[i].min(taken);
+    }
+}
+
+impl Cell {
+    // Nothing where a row has no calls of the method. The answers are compared here, before anything is timed.
+    fn new(row: Row, method: Method, count: usize) -> Option<Cell> {
+        let calls = calls_of(row, method, count);
+        if calls.is_empty() {
+            return None;
+        }
+        let (mut expected, mut values, mut derivatives) = (0u64, 0, 0);
+        for call in &calls {
+            let (sum, tallies) = checked(call);
+            expected = expected.wrapping_add(sum);
+            values += tallies[1];
+            derivatives += tallies[2];
+        }
+        let passes = sides_of(method)
+            .iter()
+            .map(|side| {
+                let once = (0..5).map(|_| batch(*side, &calls, 4, expected) / 4.0).fold(f64::INFINITY, f64::min);
+                (BATCH_NANOSECONDS / once).ceil() as usize
+            })
+            .collect();
+        let n = calls.len() as f64;
+        let (values, derivatives) = (values as f64 / n, derivatives as f64 / n);
+        Some(Cell { row, method, count, calls, expected, values, derivatives, passes, least: [f64::INFINITY; 3] })
+    }
+
+    // The sides in turn.
+    fn round(&mut self) {
+        for _ in 0..BATCHES {
+            for (i, side) in sides_of(self.method).iter().enumerate() {
+                let taken = batch(*side, &self.calls, self.passes[i], self.expected) / self.passes[i] as f64;
+                self.least[i] = self.least[i].min(taken);
+            }
         }
     }
-    let n = calls.len() as f64;
-    let telling = (sides.len() > 2).then_some(least[2] / n);
-    Cell { proved: least[0] / n, rust: least[1] / n, telling, values: values as f64 / n, derivatives: derivatives as f64 / n }
+
+    fn time(&self, side: Side) -> f64 {
+        self.least[side as usize] / self.calls.len() as f64
+    }
+
+    fn ratio(&self) -> f64 {
+        self.time(Side::Proved) / self.time(Side::Rust)
+    }
+
+    fn print(&self) {
+        let telling = match self.method {
+            Method::Polynom => "- | -".to_string(),
+            _ => format!("{:.1} | {:.2}", self.time(Side::Telling), self.time(Side::Proved) / self.time(Side::Telling)),
+        };
+        println!(
+            "| {} | {} | {} | {:.1} | {:.1} | {:.1} | {:.1} | {:.2} | {telling} |",
+            self.method.words(),
+            self.count,
+            self.calls.len(),
+            self.values,
+            self.derivatives,
+            self.time(Side::Proved),
+            self.time(Side::Rust),
+            self.ratio()
+        );
+    }
+}
+
+fn measured() -> Vec<Cell> {
+    let mut cells = Vec::new();
+    for row in ROWS {
+        for method in METHODS {
+            cells.extend(COUNTS.into_iter().filter_map(|count| Cell::new(row, method, count)));
+        }
+    }
+    for _ in 0..ROUNDS {
+        cells.iter_mut().for_each(Cell::round);
+    }
+    cells
 }
 
 fn tables() {
-    println!("ns: the least of {REPETITIONS} batches of {} ms of thread time", BATCH_NANOSECONDS / 1e6);
+    let cells = measured();
+    println!("ns: the least of {} batches of {} ms of thread time, in {ROUNDS} rounds", ROUNDS * BATCHES, BATCH_NANOSECONDS / 1e6);
     for row in ROWS {
         println!("\n## {}\n", row.words());
         println!("| Method | coefficients | calls | values | derivatives | proved, ns | Rust, ns | ratio | Rust telling, ns | ratio |");
         println!("|---|--:|--:|--:|--:|--:|--:|--:|--:|--:|");
-        let mut ratios = Vec::new();
-        for method in METHODS {
-            let mut of_method = Vec::new();
-            for count in COUNTS {
-                let calls = calls_of(row, method, count);
-                if calls.is_empty() {
-                    of_method.push("-".to_string());
-                    continue;
-                }
-                let cell = measured(&calls);
-                let ratio = cell.proved / cell.rust;
-                let telling = match cell.telling {
-                    Some(time) => format!("{time:.1} | {:.2}", cell.proved / time),
-                    None => "- | -".to_string(),
-                };
-                println!(
-                    "| {} | {count} | {} | {:.1} | {:.1} | {:.1} | {:.1} | {ratio:.2} | {telling} |",
-                    method.words(),
-                    calls.len(),
-                    cell.values,
-                    cell.derivatives,
-                    cell.proved,
-                    cell.rust
-                );
-                of_method.push(format!("{ratio:.2} ({:.1})", cell.values));
-            }
-            ratios.push((method.words(), of_method));
-        }
+        let of_row = || cells.iter().filter(|cell| cell.row == row);
+        of_row().for_each(Cell::print);
         println!("\n| proved / Rust (mean values) | 1 | 2 | 4 | 8 | 16 |\n|---|--:|--:|--:|--:|--:|");
-        for (name, of_method) in ratios {
-            println!("| {name} | {} |", of_method.join(" | "));
+        for method in METHODS {
+            let words = COUNTS.map(|count| match of_row().find(|cell| cell.method == method && cell.count == count) {
+                Some(cell) => format!("{:.2} ({:.1})", cell.ratio(), cell.values),
+                None => "-".to_string(),
+            });
+            println!("| {} | {} |", method.words(), words.join(" | "));
         }
     }
 }

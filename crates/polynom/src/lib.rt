@@ -86,7 +86,7 @@ pub fn value(a: &[f64], x: f64) -> f64
     let first = begun(a, x);
     let mut sum = first.sum;
     let mut left = first.left;
-    while left > 0 {
+    while left > 1 {
         left -= 2;
         sum = two_more(a, x, left, sum);
     }

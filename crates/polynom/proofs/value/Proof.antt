@@ -37,7 +37,7 @@ loop-again c = (omega arith, omega (arith, c .before .before .loop .inv .1), sea
 
 returns : tie.Need-returns Inv-loop μ-loop
 unfolding value
-returns c = let l = c .before .before .loop in rw (sums-at _ _ (l .left) 0 (omega arith) (l .inv .2))
+returns c = let l = c .before .before .loop in rw (sums-at _ _ (l .left) 0 (omega (arith, l .inv .1)) (l .inv .2))
 
 pub value-spec : {M : Type 1} → statement M
 value-spec =
