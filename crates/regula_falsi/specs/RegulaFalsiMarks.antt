@@ -82,13 +82,15 @@ module _ (a : List Float) (stop : StopRule) (good : badEps (stop .eps) ≡ false
       let w = not-found-size stop (q .y) good f e in
       let on = after-signs (productDeparts p q) (markIn h) (signs-agree p q z w) m in
       ends-bracketed _ stop p q (λ s. on)
-      (λ s.
-      (record {
-        left-end = weighs-whole stop small (turnsOf stop) p c (omega arith) z;
-        right-end = weighs-whole stop small (turnsOf stop) q d (omega arith) w;
-        apart = s;
-        within = omega arith;
-      }, on)))
+      (λ s. (
+        record {
+          left-end = weighs-whole stop small (turnsOf stop) p c (omega arith) z;
+          right-end = weighs-whole stop small (turnsOf stop) q d (omega arith) w;
+          apart = s;
+          within = omega arith;
+        },
+        on,
+      )))
 
   marks-first : (x : Float) (p : Sample) (h : List Event) → finite x ≡ true → finite (p .x) ≡ true → finite (p .y) ≡ true → ZeroOrTwo (markIn h) → Reaches (turnsOf stop) (firstAt stop x p) h
   unfolding firstAt markIn

@@ -132,7 +132,8 @@ module _ (stop : StopRule) (small : stop .limit ≤ 400) where
         weight-tells n (s .left) p l z,
         weight-tells n (s .right) p r z,
         same-sign-is (v .0) (l .side) _ _ (v .1) (l .value-side),
-        same-sign-is (v .0) (r .side) _ _ (v .1) (r .value-side))
+        same-sign-is (v .0) (r .side) _ _ (v .1) (r .value-side),
+      )
       (settled (v .0) (l .side) (r .side) (sym (same-sign-is (l .side) (r .side) _ _ (l .value-side) (r .value-side)) ∙ b .apart))
 
   pub heavy-sound : (good : badEps (stop .eps) ≡ false) (n : ℕ) (s : Illinois) → Heavy stop n s → Sound stop s

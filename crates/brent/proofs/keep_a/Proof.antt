@@ -1,5 +1,5 @@
 use Rattle.numerical.specs.TallyLaws.{room}
-use Rattle.searching.specs.StepLaws.{steps}
+use Rattle.searching.specs.StepLaws.{by-value, by-narrow-to}
 use Rattle.brent.specs.Brent.{keptA}
 use Rattle.brent.specs.BrentLaws.{moved-larger, moved-not-larger}
 use borrow.Author.Needs.{needs}
@@ -26,7 +26,7 @@ goes-on-requires c κs = search needs
 
 returns : tie.Need-returns
 unfolding keptA
-returns c = λ cs known. search (steps, moved-larger)
+returns c = λ cs known. search (by-value, by-narrow-to, moved-larger)
 
 moved-requires-2 : tie.Need-moved-requires-2
 moved-requires-2 c κs = search needs
@@ -39,7 +39,7 @@ goes-on-requires-2 c κs = search needs
 
 returns-2 : tie.Need-returns-2
 unfolding keptA
-returns-2 c = λ cs known. search (steps, moved-not-larger)
+returns-2 c = λ cs known. search (by-value, by-narrow-to, moved-not-larger)
 
 pub keep-a-spec : {M : Type 1} → statement M
 keep-a-spec =

@@ -15,7 +15,7 @@ abbrev μ-loop : tie.MeasureT-loop
 μ-loop a stop most s₀ p₀ n₀ s p n = most - n
 
 loop-holds : tie.Need-loop-holds Inv-loop μ-loop
-loop-holds c = (search loops-first, search needs)
+loop-holds c = (search loops-first, search evaluations-next)
 
 take-turn-requires : tie.Need-take-turn-requires Inv-loop μ-loop
 take-turn-requires c κs = (search loops-room, search needs)

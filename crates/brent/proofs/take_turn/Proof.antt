@@ -1,4 +1,6 @@
-use Rattle.searching.specs.StepLaws.{steps}
+use Rattle.searching.specs.StepLaws.{by-held, by-missed, by-done}
+use Rattle.numerical.specs.declared.Answer.the-variants.{ByWidth}
+use Rattle.searching.specs.Programs.{ended}
 use Rattle.brent.specs.Brent.{turnFrom}
 use borrow.Author.Needs.{needs}
 use Rattle.brent.proofs.take_turn.Statement.{statement}
@@ -12,7 +14,7 @@ ended-requires c κs = search needs
 
 returns : tie.Need-returns
 unfolding turnFrom
-returns c = search steps
+returns c = search (by-held, by-missed, by-done)
 
 found-requires-2 : tie.Need-found-requires-2
 found-requires-2 c κs = search needs
@@ -22,7 +24,7 @@ ended-requires-2 c κs = search needs
 
 returns-2 : tie.Need-returns-2
 unfolding turnFrom
-returns-2 c = search steps
+returns-2 c = search (by-held, by-missed, by-done)
 
 converged-requires : tie.Need-converged-requires
 converged-requires c κs = search needs
@@ -32,14 +34,22 @@ ended-requires-3 c κs = search needs
 
 returns-3 : tie.Need-returns-3
 unfolding turnFrom
-returns-3 c = search steps
+returns-3 c =
+    let close = c .before in
+    let second = close .before .before in
+    let first = second .before .before in
+    let s = first .before .before .before .before .before .args .s in
+    by-missed _ _ _ _ _ _ (first .before .found .ensures) (first .if1 .left)
+    (by-missed _ _ _ _ _ _ (second .before .found2 .ensures) (second .if2 .left)
+    (by-held _ _ _ _ _ _ (close .before .converged .ensures) (close .if3 .taken)
+    (by-done _ _ (ended (ByWidth (s .c .x) (s .a .x) (s .b .x))) (c .ended3 .ensures))))
 
 step-from-requires : tie.Need-step-from-requires
 step-from-requires c κs = search needs
 
 returns-4 : tie.Need-returns-4
 unfolding turnFrom
-returns-4 c = search steps
+returns-4 c = search (by-held, by-missed, by-done)
 
 pub take-turn-spec : {M : Type 1} → statement M
 take-turn-spec =

@@ -7,7 +7,7 @@ ended-requires : tie.Need-ended-requires
 ended-requires c κs = search needs
 
 returns : tie.Need-returns
-returns c = search needs
+returns c = c .ended .ensures
 
 pub by-value-spec : {M : Type 1} → statement M
 by-value-spec = tie.close (tie.spec ended-requires returns)
