@@ -49,7 +49,7 @@ step-from-requires c κs = search needs
 
 returns-4 : tie.Need-returns-4
 unfolding turnFrom
-returns-4 c = search (by-held, by-missed, by-done)
+returns-4 c = search by-missed
 
 pub take-turn-spec : {M : Type 1} → statement M
 take-turn-spec =

@@ -1,0 +1,13 @@
+-- `roots::search_plain` meets its contract. Assumes nothing.
+use borrow.Author.Needs.{needs}
+use Rattle.roots.proofs.search_plain.Statement.{statement}
+use Rattle.roots.proofs.search_plain.Tie as tie
+
+search-requires : tie.Need-search-requires
+search-requires c κs = search needs
+
+returns : tie.Need-returns
+returns c = c .search .ensures
+
+pub search-plain-spec : {M : Type 1} → statement M
+search-plain-spec = tie.close (tie.spec search-requires returns)
