@@ -1,6 +1,6 @@
 -- Each answer of the Illinois search has its reason in the history, its pairs narrow, and its root lies between the starts.
 use Prim.Native.Nat.{ℕ, suc}
-use mathlib.Core.Bool.{Bool, true, false}
+use mathlib.Core.Bool.{Bool, true, false, cond}
 use mathlib.Core.List.{List, []}
 use mathlib.Core.Logic.{_⊎_, inl, inr}
 use mathlib.Core.Path.{_≡_, refl, _∙_}
@@ -22,7 +22,7 @@ use Rattle.searching.specs.ReasonLaws.{Answered}
 use Rattle.searching.specs.Brackets.{pairsIn, pointsOf, Fit, AtStarts, Bracket, Unpaired, Bracketing}
 use Rattle.searching.specs.BracketLaws.{double-finite, between, answered-fit, ends-fit, unpaired-none, unpaired-going, unpaired-on, unpaired-narrows, unpaired-value, bracketed-ends, bracket-backed, bracket-in, bracket-narrows, bracket-on, bracket-pulled, bracket-going, bracket-next, bracket-found, bracket-value, bracket-no-candidate, bracket-limit}
 use Rattle.searching.specs.Keeps.{Ends, After, ends-done, ends-log, ends-test, ends-stops, ends-offered, ends-pulled, ends-narrows, ends-searches}
-use Rattle.regula_falsi.specs.RegulaFalsi.{pairOf, secondAt, firstAt, ordered, opening, candidateOf, rightAfter, leftAfter, replacedOf, arrived, landed, pulledIn, turnFrom, illinoisProgram}
+use Rattle.regula_falsi.specs.RegulaFalsi.{pairOf, secondAt, firstAt, ordered, opening, candidateOf, rightAfter, leftAfter, leftReplaced, rightReplaced, replacedOf, arrived, landed, pulledIn, turnFrom, illinoisProgram}
 use Rattle.regula_falsi.specs.declared.End.{End}
 use Rattle.regula_falsi.specs.declared.Edge.{Edge}
 use Rattle.regula_falsi.specs.declared.Edge.the-variants.{EdgeX1, NoEdge, EdgeX2}
@@ -39,14 +39,14 @@ left-at EdgeX1 e = refl
 left-at NoEdge e = refl
 left-at EdgeX2 e = refl
 
--- the values of the next pair are not alike either
+-- the values of the next pair are not alike either, where the sample's sign picks the end
+picked-signs : (s : Illinois) (p : Sample) (b : Bool) → sameSign (p .y) (s .left .at .y) ≡ b → sameSign (s .left .at .y) (s .right .at .y) ≡ false → sameSign (cond b (leftReplaced s p) (rightReplaced s p) .left .at .y) (cond b (leftReplaced s p) (rightReplaced s p) .right .at .y) ≡ false
+picked-signs s p true e n = rw right-at (shared-replaced _ _ _ e n)
+picked-signs s p false e n = rw left-at (same-symmetric _ _ ∙ e)
+
 pub replaced-signs : (s : Illinois) (p : Sample) → sameSign (s .left .at .y) (s .right .at .y) ≡ false → sameSign (replacedOf s p .left .at .y) (replacedOf s p .right .at .y) ≡ false
 unfolding replacedOf
-replaced-signs s p n = go (sameSign (p .y) (s .left .at .y)) refl
-  where
-    go : (b : Bool) → sameSign (p .y) (s .left .at .y) ≡ b → sameSign (replacedOf s p .left .at .y) (replacedOf s p .right .at .y) ≡ false
-    go true e = rw (e, right-at) (shared-replaced _ _ _ e n)
-    go false e = rw (e, left-at) (same-symmetric _ _ ∙ e)
+replaced-signs s p n = picked-signs s p _ refl n
 
 -- each end of the next pair is the new sample or an end of this pair
 replaced-ends : (P : Sample → Type 0) (s : Illinois) (p : Sample) → P (s .left .at) → P (s .right .at) → P p → P (replacedOf s p .left .at) × P (replacedOf s p .right .at)
