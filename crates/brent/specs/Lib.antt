@@ -3,4 +3,6 @@ pub mod Brent
 pub mod BrentRule
 pub mod BrentLaws
 pub mod BrentKeeps
+pub mod BrentEvents
+pub mod BrentTraces
 pub mod BrentSamples

@@ -2,5 +2,7 @@
 pub mod NewtonRaphson
 pub mod NewtonRaphsonLaws
 pub mod NewtonRaphsonKeeps
+pub mod NewtonRaphsonEvents
+pub mod NewtonRaphsonTraces
 -- the nudge never gives 9
 pub mod Nudge

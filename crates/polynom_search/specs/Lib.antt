@@ -3,3 +3,5 @@ pub mod PolynomSearch
 pub mod Narrowing
 pub mod PolynomSearchLaws
 pub mod PolynomSearchKeeps
+pub mod PolynomSearchEvents
+pub mod PolynomSearchTraces

@@ -14,3 +14,5 @@ pub mod ExactLaws
 pub mod Brackets
 pub mod BracketLaws
 pub mod Keeps
+pub mod Events
+pub mod EventLaws

@@ -2,3 +2,5 @@
 pub mod Secant
 pub mod SecantLaws
 pub mod SecantKeeps
+pub mod SecantEvents
+pub mod SecantTraces

@@ -1,0 +1,23 @@
+-- What each event of an Illinois history is, given those before it, and what an answer by width gives. Definitions only.
+use mathlib.Core.List.{List}
+use mathlib.Core.Logic.{_⊎_}
+use lib.Ieee.{Float}
+use Rattle.searching.specs.Programs.{found, converged, flat, alike, tested, candidate, ruled, paired, stepped, Event, asked, askedBoth, noted}
+use Rattle.searching.specs.Events.{Sampled, AtFirst, AtSecond, lowerOf, upperOf, OfStarts, PointsOf, PulledNow, Pulls, Paired}
+
+-- evaluated are the starts, smaller first, and then each candidate, pulled into the newest pair; found is tested of the sample just evaluated
+abbrev pub Follows : Float → Float → Event → List Event → Type 0
+Follows from to (asked x e) h = AtFirst (lowerOf from to) x h ⊎ AtSecond (lowerOf from to) (upperOf from to) x h ⊎ PulledNow x h
+Follows from to (askedBoth x e) h = ⊥
+Follows from to (noted (tested (found p) held)) h = Sampled p h
+Follows from to (noted (tested (converged p q) held)) h = PointsOf p q h
+Follows from to (noted (tested (flat y) held)) h = ⊥
+Follows from to (noted (tested (alike p q) held)) h = OfStarts p q h
+Follows from to (noted (candidate x)) h = Paired h
+Follows from to (noted (ruled rule departed)) h = Pulls rule departed h
+Follows from to (noted (paired i)) h = Unit {0}
+Follows from to (noted stepped) h = Unit {0}
+
+-- "giving x unevaluated by width with pair (x1, x2)": the newest candidate, pulled into the newest pair, and that pair's points
+abbrev pub Gives : Float → Float → Float → List Event → Type 0
+Gives root p q h = PointsOf p q h × PulledNow root h

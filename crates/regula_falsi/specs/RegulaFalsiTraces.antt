@@ -1,0 +1,73 @@
+-- Every Illinois history has its events in order, a pair for the opening and one for each step.
+use mathlib.Core.List.{List, [], _∷_}
+use mathlib.Core.Logic.{inl, inr}
+use mathlib.Core.Path.{_≡_, refl}
+use lib.Ieee.{Float, lt}
+use Rattle.numerical.specs.declared.Sample.{Sample}
+use Rattle.polynom.specs.declared.Evaluated.the-variants.{At}
+use Rattle.simple_convergency.specs.Stop.{turnsOf}
+use Rattle.simple_convergency.specs.declared.StopRule.{StopRule}
+use Rattle.searching.specs.Programs.{rising, found, oracle, Event, asked, Prog, Turned}
+use Rattle.searching.specs.Brackets.{pairsIn}
+use Rattle.searching.specs.Events.{evaluationsIn, candidatesIn, Sampled, lowerOf, upperOf, PointsOf, PulledNow, Traced, Opening, Tracing}
+use Rattle.searching.specs.EventLaws.{pulls-one, opening-none, opening-value, opening-stops, traced-early, tracing-newest, tracing-value, tracing-stops, tracing-candidate, tracing-ruled, tracing-narrows, traced-end, traced-bracketed}
+use Rattle.searching.specs.Keeps.{Ends, After, ends-done, ends-test, ends-searches}
+use Rattle.regula_falsi.specs.RegulaFalsi.{pairOf, secondAt, firstAt, ordered, opening, candidateOf, arrived, landed, pulledIn, turnFrom, illinoisProgram}
+use Rattle.regula_falsi.specs.RegulaFalsiEvents.{Follows, Gives}
+use Rattle.regula_falsi.specs.declared.Illinois.{Illinois}
+
+module _ (a : List Float) (stop : StopRule) (from to : Float) where
+  abbrev Inv : Illinois → List Event → Type 0
+  Inv s h = Tracing (Follows from to) (pairOf s) h
+
+  abbrev Reaches : Prog (Turned Illinois) → List Event → Type 0
+  Reaches g h = Ends (oracle a) (After Inv (Traced (Follows from to) Gives)) g h
+
+  -- ---- the opening, from the starts in order
+  module _ (x1 x2 : Float) (low : x1 ≡ lowerOf from to) (high : x2 ≡ upperOf from to) where
+    traces-second : (p q : Sample) (h : List Event) → evaluationsIn h ≡ asked x2 (At q) ∷ asked x1 (At p) ∷ [] → Opening (Follows from to) h → Reaches (secondAt stop p q) h
+    unfolding secondAt evaluationsIn
+    traces-second p q h l o =
+        opening-stops stop (found q) (λ b. refl) (λ b. (x2, _, l)) o (λ b. ends-done (traced-early tt tt b))
+        (λ b. traced-bracketed stop (record { begin = p; end = q }) _ (λ d. pulls-one _ _) (λ d c. (x1, x2, inl l)) (λ h2. tt) b (λ h2 n t. t))
+
+    traces-first : (p : Sample) (h : List Event) → evaluationsIn h ≡ asked x1 (At p) ∷ [] → Opening (Follows from to) h → Reaches (firstAt stop x2 p) h
+    unfolding firstAt evaluationsIn
+    traces-first p h l o =
+        opening-stops stop (found p) (λ b. refl) (λ b. (x1, _, l)) o (λ b. ends-done (traced-early tt tt b))
+        (λ b. opening-value x2 (λ e. inr (inl (At p, rw (← low) l, high))) b (λ q c. traces-second p q _ (rw l refl) c))
+
+    traces-ordered : Reaches (ordered stop x1 x2) []
+    unfolding ordered evaluationsIn
+    traces-ordered = opening-value x1 (λ e. inl (refl, low)) opening-none (λ p b. traces-first p _ refl b)
+
+  traces-opening : Reaches (opening stop from to) []
+  unfolding opening rising
+  traces-opening = ends-test (lt to from) (λ e. traces-ordered to from (rw e refl) (rw e refl)) (λ e. traces-ordered from to (rw e refl) (rw e refl))
+
+  -- ---- a step
+  module _ (s : Illinois) where
+    traces-arrived : (p : Sample) (h : List Event) → Sampled p h → Inv s h → Reaches (arrived stop s p) h
+    unfolding arrived
+    traces-arrived p h l t =
+        tracing-stops stop (found p) (λ b. refl) (λ b. l) t (λ u. ends-done (traced-end tt u))
+        (λ u. tracing-ruled _ (pulls-one _ _) u (λ v. tracing-narrows pairOf _ tt tt v (λ w. w)))
+
+    traces-landed : (x : Float) (h : List Event) → PulledNow x h → Inv s h → Reaches (landed stop s x) h
+    unfolding landed pairsIn candidatesIn evaluationsIn
+    traces-landed x h k t =
+        let points : PointsOf (s .left .at .x) (s .right .at .x) h = (pairOf s, tracing-newest t, refl, refl) in
+        tracing-stops stop _ (λ b. refl) (λ b. points) t (λ u. ends-done (traced-end (points, k) u))
+        (λ u. tracing-value x (λ e. inr (inr k)) u (λ p v. traces-arrived p _ (x, _, refl) v))
+
+    traces-turn : (h : List Event) → Inv s h → Reaches (turnFrom stop s) h
+    unfolding turnFrom pulledIn pairsIn candidatesIn
+    traces-turn h t =
+        let n = tracing-newest t in
+        tracing-candidate (landed stop s) _ _ (candidateOf s) (pairOf s, n) (λ e. (pairOf s, candidateOf s, n, (_, refl), refl)) t
+        (λ u. traces-landed _ _ (pairOf s, candidateOf s, n, (_, refl), refl) u)
+
+  -- every Illinois search
+  pub regula-falsi-traced : Ends (oracle a) (Traced (Follows from to) Gives) (illinoisProgram stop from to) []
+  unfolding illinoisProgram
+  regula-falsi-traced = ends-searches (λ r. turnsOf stop) (turnFrom stop) (λ n. Inv) (Traced (Follows from to) Gives) traces-opening (λ n s h t. traces-turn s h t) (λ s h t. traced-end tt t)
