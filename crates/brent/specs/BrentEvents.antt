@@ -9,7 +9,7 @@ use Rattle.numerical.specs.declared.Interval.{Interval}
 use Rattle.numerical.specs.declared.Sample.{Sample}
 use Rattle.searching.specs.Brackets.{pairsIn}
 use Rattle.searching.specs.Programs.{found, converged, flat, alike, tested, candidate, ruled, paired, stepped, Event, asked, askedBoth, noted}
-use Rattle.searching.specs.Events.{Newest, Sampled, AtFirst, AtSecond, OfStarts, EndOf, PointsOf, PulledNow, Pulls, Paired}
+use Rattle.searching.specs.Events.{Newest, Sampled, AtFirst, AtSecond, OfStarts, EndOf, PointsOf, PulledNow, Rules, Paired}
 
 -- "The kept end is evaluated again each step": a where the sample just evaluated has the opposite sign, and b otherwise
 abbrev pub KeptAgain : Float → List Event → Type 0
@@ -24,7 +24,7 @@ Follows from to (noted (tested (converged p q) held)) h = PointsOf p q h
 Follows from to (noted (tested (flat y) held)) h = ⊥
 Follows from to (noted (tested (alike p q) held)) h = OfStarts p q h
 Follows from to (noted (candidate x)) h = Paired h
-Follows from to (noted (ruled rule departed)) h = Pulls rule departed h
+Follows from to (noted (ruled rule departed)) h = Rules rule departed h
 Follows from to (noted (paired i)) h = Unit {0}
 Follows from to (noted stepped) h = Unit {0}
 

@@ -13,7 +13,7 @@ use Rattle.simple_convergency.specs.declared.StopRule.{StopRule}
 use Rattle.searching.specs.Programs.{found, converged, oracle, Event, asked, Prog, Turned, narrowsTo}
 use Rattle.searching.specs.Brackets.{pairsIn}
 use Rattle.searching.specs.Events.{evaluationsIn, candidatesIn, Sampled, OfStarts, EndOf, PointsOf, PulledNow, Traced, Opening, Tracing}
-use Rattle.searching.specs.EventLaws.{pulls-one, opening-none, opening-value, tracing-newest, tracing-value, tracing-stops, tracing-candidate, tracing-ruled, tracing-narrows, traced-end, traced-bracketed}
+use Rattle.searching.specs.EventLaws.{opening-none, opening-value, tracing-newest, tracing-value, tracing-stops, tracing-candidate, tracing-ruled, tracing-narrows, traced-end, traced-bracketed}
 use Rattle.searching.specs.Keeps.{Ends, After, ends-done, ends-test, ends-searches}
 use Rattle.brent.specs.Brent.{arrange, pairOf, startOf, opened, secondAt, firstAt, opening, guessOf, usedOf, nextOf, keptA, keptB, arrived, landed, pulledIn, stepWith, stepFrom, turnFrom, brentProgram}
 use Rattle.brent.specs.BrentEvents.{KeptAgain, Follows, IsC, Gives}
@@ -35,7 +35,7 @@ module _ (a : List Float) (stop : StopRule) (from to : Float) where
   -- ---- the opening
   traces-opened : (r : Arranged) (h : List Event) → OfStarts (r .a) (r .b) h → Opening (Follows from to) h → Reaches (opened stop r) h
   unfolding opened startOf evaluationsIn
-  traces-opened r h l o = traced-bracketed stop (record { begin = r .a; end = r .b }) _ (λ d. pulls-one _ _) (λ d c. l) (λ h2. tt) o (λ h2 n t. (t, rw n refl))
+  traces-opened r h l o = traced-bracketed stop (record { begin = r .a; end = r .b }) _ (λ d. inl refl) (λ d c. l) (λ h2. tt) o (λ h2 n t. (t, rw n refl))
 
   traces-second : (p q : Sample) (h : List Event) → evaluationsIn h ≡ asked to (At q) ∷ asked from (At p) ∷ [] → Opening (Follows from to) h → Reaches (secondAt stop p q) h
   unfolding secondAt
@@ -59,7 +59,7 @@ module _ (a : List Float) (stop : StopRule) (from to : Float) where
     traces-arrived : (flag : Bool) (p : Sample) (h : List Event) → Sampled p h → Stands s h → Reaches (arrived s flag p) h
     unfolding arrived keptA keptB evaluationsIn pairsIn
     traces-arrived flag p h l t =
-        tracing-ruled _ (pulls-one _ _) t
+        tracing-ruled _ (inl refl) t
         (λ u. ends-test (oppositeSign (s .a .y) (p .y))
         (λ e. tracing-value (s .a .x) (λ v. inr (inr (inr (pairOf s, p, tracing-newest t, l, rw e refl)))) u (λ q w. traces-next flag q p _ w))
         (λ e. tracing-value (s .b .x) (λ v. inr (inr (inr (pairOf s, p, tracing-newest t, l, rw e refl)))) u (λ q w. traces-next flag p q _ w)))
@@ -72,7 +72,7 @@ module _ (a : List Float) (stop : StopRule) (from to : Float) where
     unfolding stepWith pulledIn pairsIn candidatesIn
     traces-with bisecting guess h t =
         let n = tracing-newest t in
-        tracing-candidate (landed s bisecting) _ _ _ (pairOf s, n) (λ e. (pairOf s, _, n, (_, refl), refl)) t
+        tracing-candidate (landed s bisecting) _ _ _ (pairOf s, n) (inr (refl, (pairOf s, _, n, (_, refl), refl))) t
         (λ u. traces-landed bisecting _ _ (pairOf s, _, n, (_, refl), refl) u)
 
     traces-turn : (h : List Event) → Inv s h → Reaches (turnFrom stop s) h

@@ -9,7 +9,7 @@ use Rattle.numerical.specs.Middle.{middleOf}
 use Rattle.numerical.specs.declared.Interval.{Interval}
 use Rattle.polynom.specs.declared.ValueAndDerivative.{ValueAndDerivative}
 use Rattle.searching.specs.Programs.{found, converged, flat, alike, tested, candidate, ruled, paired, stepped, Event, asked, askedBoth, noted}
-use Rattle.searching.specs.Events.{Newest, SampledBoth, AtFirst, AtSecond, lowerOf, upperOf, OfStarts, EndOf, PointsOf, PulledNow, Pulls}
+use Rattle.searching.specs.Events.{Newest, SampledBoth, AtFirst, AtSecond, lowerOf, upperOf, OfStarts, EndOf, PointsOf, PulledNow, Rules}
 use Rattle.polynom_search.specs.PolynomSearch.{newtonPoint, usable}
 
 -- the Newton point from the value and derivative just worked out, where the derivative is nonzero and it lies in the newest pair
@@ -29,7 +29,7 @@ Follows from to (noted (tested (converged p q) held)) h = PointsOf p q h
 Follows from to (noted (tested (flat y) held)) h = ⊥
 Follows from to (noted (tested (alike p q) held)) h = OfStarts p q h
 Follows from to (noted (candidate x)) h = MiddleNow x h
-Follows from to (noted (ruled rule departed)) h = Pulls rule departed h
+Follows from to (noted (ruled rule departed)) h = Rules rule departed h
 Follows from to (noted (paired i)) h = Unit {0}
 Follows from to (noted stepped) h = Unit {0}
 

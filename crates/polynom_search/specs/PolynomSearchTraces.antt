@@ -14,7 +14,7 @@ use Rattle.simple_convergency.specs.declared.StopRule.{StopRule}
 use Rattle.searching.specs.Programs.{rising, found, converged, oracle, Event, asked, Prog, Turned}
 use Rattle.searching.specs.Brackets.{pairsIn}
 use Rattle.searching.specs.Events.{evaluationsIn, candidatesIn, SampledBoth, lowerOf, upperOf, PointsOf, PulledNow, Traced, Opening, Tracing}
-use Rattle.searching.specs.EventLaws.{pulls-one, opening-none, opening-value, tracing-newest, tracing-value, tracing-both, tracing-stops, tracing-candidate, tracing-ruled, tracing-narrows, traced-end, traced-bracketed}
+use Rattle.searching.specs.EventLaws.{opening-none, opening-value, tracing-newest, tracing-value, tracing-both, tracing-stops, tracing-candidate, tracing-ruled, tracing-narrows, traced-end, traced-bracketed}
 use Rattle.searching.specs.Keeps.{Ends, After, ends-done, ends-test, ends-searches}
 use Rattle.polynom_search.specs.PolynomSearch.{secondAt, firstAt, ordered, opening, pairOf, replacedOf, chosen, closer, newtonPoint, usable, atMiddle, stepAt, widthAt, pulledIn, atMiddleOf, turnFrom, polynomProgram}
 use Rattle.polynom_search.specs.PolynomSearchEvents.{Follows, Gives}
@@ -32,7 +32,7 @@ module _ (a : List Float) (stop : StopRule) (from to : Float) where
     unfolding firstAt secondAt evaluationsIn
     traces-first p h l o =
         opening-value x2 (λ e. inr (inl (At p, rw (← low) l, high))) o
-        (λ q b. traced-bracketed stop (record { begin = p; end = q }) _ (λ d. pulls-one _ _) (λ d c. (x1, x2, inl (rw l refl))) (λ h2. tt) b (λ h2 n t. t))
+        (λ q b. traced-bracketed stop (record { begin = p; end = q }) _ (λ d. inl refl) (λ d c. (x1, x2, inl (rw l refl))) (λ h2. tt) b (λ h2 n t. t))
 
     traces-ordered : Reaches (ordered stop x1 x2) []
     unfolding ordered evaluationsIn
@@ -46,7 +46,7 @@ module _ (a : List Float) (stop : StopRule) (from to : Float) where
   module _ (i : Interval) where
     traces-chosen : (p : Sample) (h : List Event) → Inv i h → Reaches (chosen i p) h
     unfolding chosen
-    traces-chosen p h t = tracing-ruled _ (pulls-one _ _) t (λ u. tracing-narrows pairOf _ tt tt u (λ v. v))
+    traces-chosen p h t = tracing-ruled _ (inl refl) t (λ u. tracing-narrows pairOf _ tt tt u (λ v. v))
 
     traces-middle : (v : ValueAndDerivative) (h : List Event) → SampledBoth v h → Inv i h → Reaches (atMiddle i v) h
     unfolding atMiddle closer
@@ -67,7 +67,7 @@ module _ (a : List Float) (stop : StopRule) (from to : Float) where
     unfolding atMiddleOf pulledIn pairsIn candidatesIn
     traces-middle-of g h t f =
         let n = tracing-newest t in
-        tracing-candidate g _ _ (middleOf i) (i, n, refl) (λ e. (i, middleOf i, n, (_, refl), refl)) t
+        tracing-candidate g _ _ (middleOf i) (i, n, refl) (inr (refl, (i, middleOf i, n, (_, refl), refl))) t
         (λ u. f _ _ (i, middleOf i, n, (_, refl), refl) refl u)
 
     traces-turn : (h : List Event) → Inv i h → Reaches (turnFrom stop i) h

@@ -3,7 +3,7 @@ use mathlib.Core.List.{List}
 use mathlib.Core.Logic.{_⊎_}
 use lib.Ieee.{Float}
 use Rattle.searching.specs.Programs.{found, converged, flat, alike, tested, candidate, ruled, paired, stepped, Event, asked, askedBoth, noted}
-use Rattle.searching.specs.Events.{Sampled, AtFirst, AtSecond, lowerOf, upperOf, OfStarts, PointsOf, PulledNow, Pulls, Paired}
+use Rattle.searching.specs.Events.{Sampled, AtFirst, AtSecond, lowerOf, upperOf, OfStarts, PointsOf, PulledNow, Rules, Paired}
 
 -- evaluated are the starts, smaller first, and then each candidate, pulled into the newest pair; found is tested of the sample just evaluated
 abbrev pub Follows : Float → Float → Event → List Event → Type 0
@@ -14,7 +14,7 @@ Follows from to (noted (tested (converged p q) held)) h = PointsOf p q h
 Follows from to (noted (tested (flat y) held)) h = ⊥
 Follows from to (noted (tested (alike p q) held)) h = OfStarts p q h
 Follows from to (noted (candidate x)) h = Paired h
-Follows from to (noted (ruled rule departed)) h = Pulls rule departed h
+Follows from to (noted (ruled rule departed)) h = Rules rule departed h
 Follows from to (noted (paired i)) h = Unit {0}
 Follows from to (noted stepped) h = Unit {0}
 

@@ -10,7 +10,7 @@ use Rattle.simple_convergency.specs.declared.StopRule.{StopRule}
 use Rattle.searching.specs.Programs.{rising, found, oracle, Event, asked, Prog, Turned}
 use Rattle.searching.specs.Brackets.{pairsIn}
 use Rattle.searching.specs.Events.{evaluationsIn, candidatesIn, Sampled, lowerOf, upperOf, PointsOf, PulledNow, Traced, Opening, Tracing}
-use Rattle.searching.specs.EventLaws.{pulls-one, opening-none, opening-value, opening-stops, traced-early, tracing-newest, tracing-value, tracing-stops, tracing-candidate, tracing-ruled, tracing-narrows, traced-end, traced-bracketed}
+use Rattle.searching.specs.EventLaws.{opening-none, opening-value, opening-stops, traced-early, tracing-newest, tracing-value, tracing-stops, tracing-candidate, tracing-ruled, tracing-narrows, traced-end, traced-bracketed}
 use Rattle.searching.specs.Keeps.{Ends, After, ends-done, ends-test, ends-searches}
 use Rattle.regula_falsi.specs.RegulaFalsi.{pairOf, secondAt, firstAt, ordered, opening, candidateOf, arrived, landed, pulledIn, turnFrom, illinoisProgram}
 use Rattle.regula_falsi.specs.RegulaFalsiEvents.{Follows, Gives}
@@ -29,7 +29,7 @@ module _ (a : List Float) (stop : StopRule) (from to : Float) where
     unfolding secondAt evaluationsIn
     traces-second p q h l o =
         opening-stops stop (found q) (λ b. refl) (λ b. (x2, _, l)) o (λ b. ends-done (traced-early tt tt b))
-        (λ b. traced-bracketed stop (record { begin = p; end = q }) _ (λ d. pulls-one _ _) (λ d c. (x1, x2, inl l)) (λ h2. tt) b (λ h2 n t. t))
+        (λ b. traced-bracketed stop (record { begin = p; end = q }) _ (λ d. inl refl) (λ d c. (x1, x2, inl l)) (λ h2. tt) b (λ h2 n t. t))
 
     traces-first : (p : Sample) (h : List Event) → evaluationsIn h ≡ asked x1 (At p) ∷ [] → Opening (Follows from to) h → Reaches (firstAt stop x2 p) h
     unfolding firstAt evaluationsIn
@@ -51,7 +51,7 @@ module _ (a : List Float) (stop : StopRule) (from to : Float) where
     unfolding arrived
     traces-arrived p h l t =
         tracing-stops stop (found p) (λ b. refl) (λ b. l) t (λ u. ends-done (traced-end tt u))
-        (λ u. tracing-ruled _ (pulls-one _ _) u (λ v. tracing-narrows pairOf _ tt tt v (λ w. w)))
+        (λ u. tracing-ruled _ (inl refl) u (λ v. tracing-narrows pairOf _ tt tt v (λ w. w)))
 
     traces-landed : (x : Float) (h : List Event) → PulledNow x h → Inv s h → Reaches (landed stop s x) h
     unfolding landed pairsIn candidatesIn evaluationsIn
@@ -64,7 +64,7 @@ module _ (a : List Float) (stop : StopRule) (from to : Float) where
     unfolding turnFrom pulledIn pairsIn candidatesIn
     traces-turn h t =
         let n = tracing-newest t in
-        tracing-candidate (landed stop s) _ _ (candidateOf s) (pairOf s, n) (λ e. (pairOf s, candidateOf s, n, (_, refl), refl)) t
+        tracing-candidate (landed stop s) _ _ (candidateOf s) (pairOf s, n) (inr (refl, (pairOf s, candidateOf s, n, (_, refl), refl))) t
         (λ u. traces-landed _ _ (pairOf s, candidateOf s, n, (_, refl), refl) u)
 
   -- every Illinois search

@@ -1,13 +1,15 @@
 -- Laws of the events of a history: how a search goes on from event to event, and how it ends.
-use Prim.Native.Nat.{ℕ, _+_}
+use Prim.Native.Nat.{ℕ, _+_, _≤_}
 use native.Mathlib.Omega.{arith}
-use mathlib.Core.Bool.{Bool, true, false, true≢false, false≢true}
+use mathlib.Core.Bool.{Bool, true, false, _&&_, cond, true≢false, false≢true}
 use mathlib.Core.List.{List, [], _∷_}
-use mathlib.Core.Logic.{inl, inr}
+use mathlib.Core.Logic.{_⊎_, inl, inr}
 use mathlib.Core.Path.{_≡_, refl, ap, sym, _∙_}
+use lib.Dec.{eqb}
 use lib.ListN.{length}
 use lib.Ieee.{Float}
 use Rattle.doubles.specs.Doubles.{pulled, outside}
+use Rattle.numerical.specs.Tallies.{markAfter}
 use Rattle.numerical.specs.declared.Answer.{Answer}
 use Rattle.numerical.specs.declared.Answer.the-variants.{Refused}
 use Rattle.numerical.specs.declared.Interval.{Interval}
@@ -19,9 +21,9 @@ use Rattle.polynom.specs.declared.EvaluatedBoth.{EvaluatedBoth}
 use Rattle.polynom.specs.declared.EvaluatedBoth.the-variants.{Both, NotBothFinite}
 use Rattle.polynom.specs.declared.ValueAndDerivative.{ValueAndDerivative}
 use Rattle.searching.specs.Programs.{Test, found, converged, flat, alike, tested, candidate, ruled, paired, stepped, log, Event, asked, askedBoth, noted, Prog, Turned, stops, valueAt, bothAt, offered, pulledInto, bracketed, narrowsTo, Oracle}
-use Rattle.searching.specs.Histories.{stepsIn}
+use Rattle.searching.specs.Histories.{valuesIn, stepsIn, markIn}
 use Rattle.searching.specs.Brackets.{pairsIn}
-use Rattle.searching.specs.Events.{signsMissed, Newest, Pulls, Each, Width, BeforePairs, Ordered, Traced, Opening, Tracing}
+use Rattle.searching.specs.Events.{signsMissed, evaluationsIn, Newest, Each, Width, BeforePairs, Ordered, Traced, Opening, Tracing}
 use Rattle.searching.specs.Keeps.{Ends, After, ends-log, ends-stops, ends-value, ends-both, ends-offered, ends-pulled, ends-bracketed, ends-narrows}
 
 -- an event that is no pair, no step and no sign test
@@ -56,9 +58,34 @@ plain-same (noted (ruled rule departed)) h p = record { pairs = refl; steps = re
 plain-same (noted (paired i)) h p = absurd (false≢true p)
 plain-same (noted stepped) h p = absurd (false≢true p)
 
--- rule 1 pulls nothing
-pub pulls-one : (departed : Bool) (h : List Event) → Pulls 1 departed h
-pulls-one departed h e = absurd (omega (arith, e))
+mark-after : (rule : ℕ) (departed : Bool) (mark : ℕ) → (rule ≡ 1) ⊎ (rule ≡ 2) → mark ≤ 2 → markAfter rule departed mark ≤ 2
+unfolding markAfter
+mark-after rule departed mark r m = go (departed && eqb mark 0)
+  where
+    go : (c : Bool) → cond c rule mark ≤ 2
+    go true = elim r [ inl e ↦ omega (arith, e) | inr e ↦ omega (arith, e) ]
+    go false = m
+
+-- where every added rule is 1 or 2, so is the mark, or it is 0
+module _ (Follows : Event → List Event → Type 0) (known : (rule : ℕ) (departed : Bool) (h : List Event) → Follows (noted (ruled rule departed)) h → (rule ≡ 1) ⊎ (rule ≡ 2)) where
+  pub mark-known : (h : List Event) → Each Follows h → markIn h ≤ 2
+  unfolding markIn
+  mark-known [] l = omega arith
+  mark-known (asked x e ∷ h) l = mark-known h (l .1)
+  mark-known (askedBoth x e ∷ h) l = mark-known h (l .1)
+  mark-known (noted (tested t held) ∷ h) l = mark-known h (l .1)
+  mark-known (noted (candidate x) ∷ h) l = mark-known h (l .1)
+  mark-known (noted (ruled rule departed) ∷ h) l = mark-after rule departed (markIn h) (known rule departed h (l .0)) (mark-known h (l .1))
+  mark-known (noted (paired i) ∷ h) l = mark-known h (l .1)
+  mark-known (noted stepped ∷ h) l = mark-known h (l .1)
+
+-- the values counted are the evaluations
+pub values-are : (h : List Event) → valuesIn h ≡ length (evaluationsIn h)
+unfolding valuesIn evaluationsIn
+values-are [] = refl
+values-are (asked x e ∷ h) = omega (arith, values-are h)
+values-are (askedBoth x e ∷ h) = omega (arith, values-are h)
+values-are (noted n ∷ h) = values-are h
 
 module _ {Follows : Event → List Event → Type 0} where
   -- ---- before the first pair

@@ -112,9 +112,9 @@ PointsOf p q h = (i : Interval) × Newest i h × (p ≡ i .begin .x) × (q ≡ i
 abbrev pub PulledNow : Float → List Event → Type 0
 PulledNow x h = (i : Interval) × (c : Float) × Newest i h × Candidate c h × (x ≡ pulled (i .begin .x) (i .end .x) c)
 
--- rule 2 is of the newest candidate and the newest pair
-abbrev pub Pulls : ℕ → Bool → List Event → Type 0
-Pulls rule departed h = rule ≡ 2 → ((i : Interval) × (c : Float) × Newest i h × Candidate c h × (departed ≡ outside (i .begin .x) (i .end .x) c))
+-- an added rule is rule 1, or rule 2 of the newest candidate and the newest pair
+abbrev pub Rules : ℕ → Bool → List Event → Type 0
+Rules rule departed h = (rule ≡ 1) ⊎ ((rule ≡ 2) × ((i : Interval) × (c : Float) × Newest i h × Candidate c h × (departed ≡ outside (i .begin .x) (i .end .x) c)))
 
 -- there is a pair
 abbrev pub Paired : List Event → Type 0
