@@ -51,7 +51,8 @@ use Rattle.roots.specs.CallLaws.{first-of, both-of}
 use Rattle.roots.specs.Calls.{badCount, allFinite, startsOf, foundBy, foundUnder, answer}
 use Rattle.roots.specs.declared.Method.{Method}
 use Rattle.roots.specs.declared.Method.the-variants.{Brent, RegulaFalsi, Secant, NewtonRaphson, Polynom}
-use Rattle.promises.specs.Searches.{ruleOf, programOf, historyOf, atOnce, Held, mostValues, mostDerivatives, mostSteps, Bracketed, Truthful, PairBetween, NestedByOrder}
+use Rattle.promises.specs.EarlyLaws.{atOnce}
+use Rattle.promises.specs.Searches.{ruleOf, programOf, historyOf, Held, mostValues, mostDerivatives, mostSteps, Bracketed, Truthful, PairBetween, NestedByOrder}
 
 -- each method's definition is its program's answer
 found-by-program : (a : List Float) (stop : StopRule) (m : Method) → foundBy a stop m ≡ answerOf a (programOf stop m)

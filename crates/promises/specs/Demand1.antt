@@ -1,25 +1,50 @@
 -- Demand 1: any input gets an acceptance or a refusal numbered 1 to 9, nothing else; and 1 to 5 exactly when document 01 says.
-use Prim.Native.Nat.{ℕ, suc, _≤_}
+use Prim.Native.Nat.{ℕ, zero, suc, _≤_}
+use native.Mathlib.Omega.{arith}
 use mathlib.Core.List.{List}
-use mathlib.Core.Logic.{_↔_}
-use mathlib.Core.Path.{_≡_}
+use mathlib.Core.Logic.{_↔_, inl, inr}
+use mathlib.Core.Path.{_≡_, ap, sym, _∙_, subst}
 use lib.Ieee.{Float}
 use Rattle.numerical.specs.Answers.{refusedAtOnce}
 use Rattle.numerical.specs.declared.Answer.the-variants.{Refused}
+use Rattle.numerical.specs.declared.Outcome.{Outcome}
 use Rattle.roots.specs.Calls.{startsOf, answer}
 use Rattle.roots.specs.declared.Method.{Method}
-use Rattle.promises.specs.Searches.{atOnce, Held}
+use Rattle.promises.specs.Searches.{Held, Early, one, two, three, four, five}
+use Rattle.promises.specs.EarlyLaws.{early-at-once, passes-at-once, at-once-early}
 use Rattle.promises.specs.Backing.{refused-now, number-range, early-iff}
 
-module _ (a : List Float) (m : Method) (eps : Float) (limit : ℕ) where
-  -- a call that 1 to 5 refuse is refused with that number, before any evaluation, and carries all zero
-  pub refused-at-once : (n : ℕ) → atOnce a m eps limit ≡ suc n → answer a m eps limit ≡ refusedAtOnce (suc n)
-  refused-at-once n e = refused-now a m eps limit n e
-
-  -- refusals 1 to 5 are given exactly when the first of document 01's five conditions to apply has that number
-  pub early-refusals : Held (startsOf m) → (n : ℕ) → 1 ≤ n → n ≤ 5 → (answer a m eps limit .answer ≡ Refused n) ↔ (atOnce a m eps limit ≡ n)
-  early-refusals d n h k = early-iff a m eps limit d n h k
-
+-- what is promised of the outcome of every call
+pub record Demand1 (a : List Float) (m : Method) (eps : Float) (limit : ℕ) (outcome : Outcome) : Type 0 where
   -- every refusal is numbered 1 to 9
-  pub refusals-are-nine : Held (startsOf m) → (n : ℕ) → answer a m eps limit .answer ≡ Refused n → (1 ≤ n) × (n ≤ 9)
-  refusals-are-nine d n e = number-range a m eps limit d n e
+  pub numbered : (n : ℕ) → outcome .answer ≡ Refused n → (1 ≤ n) × (n ≤ 9)
+  -- refusals 1 to 5 are given exactly when the first of document 01's five conditions to hold has that number
+  pub early-exactly : (n : ℕ) → n ≤ 5 → (outcome .answer ≡ Refused n) ↔ Early a m eps limit n
+  -- they carry all zero: no value and no derivative was worked out, and the mark is 0
+  pub early-zero : (n : ℕ) → Early a m eps limit n → outcome ≡ refusedAtOnce n
+
+module _ (a : List Float) (m : Method) (eps : Float) (limit : ℕ) where
+  early-number : {n : ℕ} → Early a m eps limit n → 1 ≤ n
+  early-number (one b) = omega arith
+  early-number (two c b) = omega arith
+  early-number (three c f b) = omega arith
+  early-number (four c f s b) = omega arith
+  early-number (five c f s e b) = omega arith
+
+  early-outcome : (n : ℕ) → Early a m eps limit n → answer a m eps limit ≡ refusedAtOnce n
+  early-outcome zero e = absurd (omega (arith, early-number e))
+  early-outcome (suc n) e = refused-now a m eps limit n (early-at-once a m eps limit e)
+
+  early-given : Held (startsOf m) → (n : ℕ) → n ≤ 5 → answer a m eps limit .answer ≡ Refused n → Early a m eps limit n
+  early-given d n k e =
+      let l = number-range a m eps limit d n e .0 in
+      let same = early-iff a m eps limit d n l k .0 e in
+      elim (at-once-early a m eps limit) [ inl t ↦ subst (Early a m eps limit) same t | inr p ↦ absurd (omega (arith, l, sym (passes-at-once a m eps limit p) ∙ same)) ]
+
+  pub demand-1 : Held (startsOf m) → Demand1 a m eps limit (answer a m eps limit)
+  demand-1 d =
+      record {
+        numbered = number-range a m eps limit d;
+        early-exactly = λ n k. (early-given d n k, λ e. ap (λ (o : Outcome). o .answer) (early-outcome n e));
+        early-zero = early-outcome;
+      }

@@ -3,6 +3,9 @@ pub mod Cases
 pub mod Searches
 pub mod Demand1
 pub mod Demand3
+pub mod Returned
 pub mod Once
 -- lemmas that only proofs read
+pub mod EarlyLaws
 pub mod Backing
+pub mod HistoryLaws

@@ -1,26 +1,36 @@
 -- The words of the promises: a call's program and history, which calls 1 to 5 refuse, and the bounds. Definitions only.
-use Prim.Native.Nat.{ℕ, _+_, _*_, max}
-use mathlib.Core.Bool.{cond}
-use mathlib.Core.List.{List, [], _∷_}
+use Prim.Native.Nat.{ℕ, _+_, _*_, _≤_, _<_, max}
+use mathlib.Core.Bool.{true, false, cond}
+use mathlib.Core.List.{List, [], _∷_, List·Memᴰ}
+use mathlib.Core.Logic.{_⊎_}
 use mathlib.Core.Path.{_≡_}
-use lib.Dec.{T, ltb}
+use lib.Dec.{T}
 use lib.ListN.{length}
-use lib.Ieee.{Float, binary64, fits}
-use Rattle.doubles.specs.Doubles.{orderOf}
+use lib.Ieee.{Float, binary64, fits, lt, sub}
+use lib.Ieee.Scale.{finite}
+use Rattle.doubles.specs.Doubles.{absolute, orderOf}
 use Rattle.doubles.specs.Pairs.{BetweenZ}
 use Rattle.numerical.specs.declared.Answer.{Answer}
 use Rattle.numerical.specs.declared.Interval.{Interval}
-use Rattle.simple_convergency.specs.Stop.{greatestLimit, badEps, foundAt, turnsOf}
+use Rattle.numerical.specs.declared.Sample.{Sample}
+use Rattle.simple_convergency.specs.Stop.{leastEps, greatestLimit, mostCoefficients, foundAt, turnsOf}
 use Rattle.simple_convergency.specs.declared.StopRule.{StopRule}
 use Rattle.polynom.specs.Polynom.{valueAndDerivative, evaluated, evaluatedBoth}
+use Rattle.polynom.specs.declared.ValueAndDerivative.{ValueAndDerivative}
 use Rattle.searching.specs.Programs.{Prog, Event, asked, askedBoth, noted, oracle}
+use Rattle.searching.specs.Events.{SampledBoth, SampledTwo}
 use Rattle.searching.specs.Histories.{history}
 use Rattle.brent.specs.Brent.{brentProgram}
 use Rattle.regula_falsi.specs.RegulaFalsi.{illinoisProgram}
 use Rattle.secant.specs.Secant.{secantProgram}
 use Rattle.newton_raphson.specs.NewtonRaphson.{newtonProgram}
 use Rattle.polynom_search.specs.PolynomSearch.{polynomProgram}
-use Rattle.roots.specs.Calls.{badCount, allFinite, startsOf}
+use Rattle.brent.specs.BrentEvents as brent
+use Rattle.regula_falsi.specs.RegulaFalsiEvents as illinois
+use Rattle.secant.specs.SecantEvents as secant
+use Rattle.newton_raphson.specs.NewtonRaphsonEvents as newton
+use Rattle.polynom_search.specs.PolynomSearchEvents as polynom
+use Rattle.roots.specs.Calls.{startsOf}
 use Rattle.roots.specs.declared.Method.{Method}
 use Rattle.roots.specs.declared.Method.the-variants.{Brent, RegulaFalsi, Secant, NewtonRaphson, Polynom}
 
@@ -38,16 +48,35 @@ programOf stop (Polynom from to) = polynomProgram stop from to
 abbrev pub historyOf : List Float → Method → Float → ℕ → List Event
 historyOf a m eps limit = history (oracle a) (programOf (ruleOf eps limit) m)
 
--- the first of 1 to 5 that a call gets, and 0 where it gets none
-unfoldable pub atOnce : List Float → Method → Float → ℕ → ℕ
-atOnce a m eps limit =
-    cond (badCount (length a)) 1
-    (cond (allFinite a)
-    (cond (allFinite (startsOf m))
-    (cond (badEps eps) 4
-    (cond (ltb greatestLimit limit) 5 0))
-    3)
-    2)
+-- ---- refusals 1 to 5, in document 01's words
+
+-- 1: "coefficient count is 0 or above 16"
+abbrev pub BadCount : List Float → Type 0
+BadCount a = (length a ≡ 0) ⊎ (mostCoefficients < length a)
+
+-- 2 and 3: some coefficient, or some start, isn't finite
+abbrev pub SomeNotFinite : List Float → Type 0
+SomeNotFinite l = (x : Float) × List·Memᴰ x l × (finite x ≡ false)
+
+-- 4: "eps isn't finite or is below 2^-300"
+abbrev pub BadEps : Float → Type 0
+BadEps eps = (finite eps ≡ false) ⊎ (lt eps leastEps ≡ true)
+
+-- "1 to 5 are checked in that order": the number that a call is refused with before any evaluation
+pub data Early (a : List Float) (m : Method) (eps : Float) (limit : ℕ) : ℕ → Type 0 where
+  one : BadCount a → Early a m eps limit 1
+  two : ¬ BadCount a → SomeNotFinite a → Early a m eps limit 2
+  three : ¬ BadCount a → ¬ SomeNotFinite a → SomeNotFinite (startsOf m) → Early a m eps limit 3
+  four : ¬ BadCount a → ¬ SomeNotFinite a → ¬ SomeNotFinite (startsOf m) → BadEps eps → Early a m eps limit 4
+  five : ¬ BadCount a → ¬ SomeNotFinite a → ¬ SomeNotFinite (startsOf m) → ¬ BadEps eps → greatestLimit < limit → Early a m eps limit 5
+
+-- a call that none of the five refuses
+pub record Passes (a : List Float) (m : Method) (eps : Float) (limit : ℕ) : Type 0 where
+  pub good-count : ¬ BadCount a
+  pub good-coefficients : ¬ SomeNotFinite a
+  pub good-starts : ¬ SomeNotFinite (startsOf m)
+  pub good-eps : ¬ BadEps eps
+  pub good-limit : ¬ (greatestLimit < limit)
 
 -- the numbers given are doubles: values of the format, as every f64 is
 abbrev pub Held : List Float → Type 0
@@ -76,6 +105,40 @@ mostSteps a stop (RegulaFalsi from to) = turnsOf stop
 mostSteps a stop (Secant first second) = turnsOf stop
 mostSteps a stop (NewtonRaphson start) = cond (foundAt stop (valueAndDerivative a start .derivative)) (max 2 (stop .limit)) (max 1 (stop .limit))
 mostSteps a stop (Polynom from to) = turnsOf stop
+
+-- ---- what a method's events are, and what its answers give
+
+-- what each event of its history is, given those before it
+abbrev pub followsOf : Method → Event → List Event → Type 0
+followsOf (Brent from to) = brent.Follows from to
+followsOf (RegulaFalsi from to) = illinois.Follows from to
+followsOf (Secant first second) = secant.Follows first second
+followsOf (NewtonRaphson start) = newton.Follows start
+followsOf (Polynom from to) = polynom.Follows from to
+
+-- which point the root by width is, and which points stand beside it
+abbrev pub givesOf : Method → Float → Float → Float → List Event → Type 0
+givesOf (Brent from to) = brent.Gives
+givesOf (RegulaFalsi from to) = illinois.Gives
+givesOf (Secant first second) = secant.Gives
+givesOf (NewtonRaphson start) = newton.Gives
+givesOf (Polynom from to) = polynom.Gives
+
+-- 7: secant's last two values are too close, or Newton's derivative at the last point evaluated is too small; the others have none
+abbrev pub Flat : Float → Method → List Event → Type 0
+Flat eps (Brent from to) h = ⊥
+Flat eps (RegulaFalsi from to) h = ⊥
+Flat eps (Secant first second) h = (p : Sample) × (q : Sample) × SampledTwo p q h × (lt (absolute (sub binary64 (p .y) (q .y))) eps ≡ true)
+Flat eps (NewtonRaphson start) h = (v : ValueAndDerivative) × SampledBoth v h × (lt (absolute (v .derivative)) eps ≡ true)
+Flat eps (Polynom from to) h = ⊥
+
+-- the marks that a method can have
+abbrev pub Marks : Method → ℕ → Type 0
+Marks (Brent from to) mark = mark ≤ 2
+Marks (RegulaFalsi from to) mark = (mark ≡ 0) ⊎ (mark ≡ 2)
+Marks (Secant first second) mark = mark ≡ 0
+Marks (NewtonRaphson start) mark = mark ≡ 0
+Marks (Polynom from to) mark = mark ≤ 2
 
 -- a bracketing method and its starts
 abbrev pub Bracketed : Method → Float → Float → Type 0

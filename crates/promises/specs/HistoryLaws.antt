@@ -1,0 +1,134 @@
+-- What the order of a history's events says, as one statement over the method.
+use Prim.Native.Nat.{ℕ, _+_, _≤_}
+use native.Mathlib.Omega.{arith}
+use mathlib.Core.Bool.{Bool, true, false}
+use mathlib.Core.List.{List, [], _∷_}
+use mathlib.Core.Logic.{_⊎_, inl, inr}
+use mathlib.Core.Path.{_≡_, refl, ap, sym, _∙_, subst}
+use lib.ListN.{length}
+use lib.Ieee.{Float, binary64, lt, sub}
+use Rattle.doubles.specs.Doubles.{absolute, sameSign}
+use Rattle.numerical.specs.declared.Answer.{Answer}
+use Rattle.numerical.specs.declared.Answer.the-variants.{ByWidth, Refused}
+use Rattle.numerical.specs.declared.Sample.{Sample}
+use Rattle.simple_convergency.specs.Stop.{foundAt}
+use Rattle.simple_convergency.specs.declared.StopRule.{StopRule}
+use Rattle.polynom.specs.Polynom.{value}
+use Rattle.polynom.specs.declared.ValueAndDerivative.{ValueAndDerivative}
+use Rattle.searching.specs.Brackets.{pairsIn}
+use Rattle.searching.specs.Events.{evaluationsIn, signsMissed, Rules, Each, Width, BeforePairs, Ordered, Traced}
+use Rattle.searching.specs.EventLaws.{mark-known, values-are}
+use Rattle.searching.specs.Histories.{history, valuesIn, stepsIn, derivativesIn, markIn}
+use Rattle.searching.specs.Keeps.{Ends}
+use Rattle.searching.specs.ProgramLaws.{counted}
+use Rattle.searching.specs.Programs.{flat, tested, noted, Event, oracle, answerOf}
+use Rattle.searching.specs.Reasons.{Reason, of-signs, of-flatness, of-limit, of-value, of-derivative, of-candidate, of-middle}
+use Rattle.brent.specs.BrentTraces.{brent-traced}
+use Rattle.regula_falsi.specs.RegulaFalsiTraces.{regula-falsi-traced}
+use Rattle.secant.specs.SecantTraces.{secant-ordered}
+use Rattle.newton_raphson.specs.NewtonRaphsonTraces.{newton-raphson-ordered}
+use Rattle.polynom_search.specs.PolynomSearchTraces.{polynom-search-traced}
+use Rattle.roots.specs.Calls.{startsOf, answer}
+use Rattle.roots.specs.declared.Method.{Method}
+use Rattle.roots.specs.declared.Method.the-variants.{Brent, RegulaFalsi, Secant, NewtonRaphson, Polynom}
+use Rattle.promises.specs.EarlyLaws.{atOnce}
+use Rattle.promises.specs.Backing.{Passed, passed, at-answer, counts-of, reason-of, six-told, plain-secant, plain-newton, two-marks}
+use Rattle.promises.specs.Searches.{ruleOf, programOf, historyOf, Held, followsOf, givesOf, Flat, Marks, Bracketed}
+
+-- ---- a method at a time
+
+module _ (a : List Float) (stop : StopRule) where
+  ordered-at : (m : Method) → Ends (oracle a) (Ordered (followsOf m) (givesOf m)) (programOf stop m) []
+  ordered-at (Brent from to) = record { there = brent-traced a stop from to .there .ordered }
+  ordered-at (RegulaFalsi from to) = record { there = regula-falsi-traced a stop from to .there .ordered }
+  ordered-at (Secant first second) = secant-ordered a stop first second
+  ordered-at (NewtonRaphson start) = newton-raphson-ordered a stop start
+  ordered-at (Polynom from to) = record { there = polynom-search-traced a stop from to .there .ordered }
+
+  traced-at : (m : Method) (u v : Float) → Bracketed m u v → Ends (oracle a) (Traced (followsOf m) (givesOf m)) (programOf stop m) []
+  traced-at (Brent from to) u v s = brent-traced a stop from to
+  traced-at (RegulaFalsi from to) u v s = regula-falsi-traced a stop from to
+  traced-at (Secant first second) u v s = absurd s
+  traced-at (NewtonRaphson start) u v s = absurd s
+  traced-at (Polynom from to) u v s = polynom-search-traced a stop from to
+
+-- ---- 7
+
+-- the flatness test that held is the newest event, and the method says of what it is
+flat-found : (eps : Float) (limit : ℕ) (m : Method) (y : Float) (h : List Event) → foundAt (ruleOf eps limit) y ≡ true → followsOf m (noted (tested (flat y) true)) h → Flat eps m (noted (tested (flat y) true) ∷ h)
+unfolding foundAt evaluationsIn
+flat-found eps limit (Brent from to) y h e l = absurd l
+flat-found eps limit (RegulaFalsi from to) y h e l = absurd l
+flat-found eps limit (Secant first second) y h e (p, q, s, d) = (p, q, s, subst (λ (z : Float). lt (absolute z) eps ≡ true) d e)
+flat-found eps limit (NewtonRaphson start) y h e (v, s, d) = (v, s, subst (λ (z : Float). lt (absolute z) eps ≡ true) d e)
+flat-found eps limit (Polynom from to) y h e l = absurd l
+
+flat-reason :
+    {a : List Float} (eps : Float) (limit : ℕ) (m : Method) {most n : ℕ} {h : List Event} → n ≡ 7 → Reason a (ruleOf eps limit) most (Refused n) h → Each (followsOf m) h → Flat eps m h
+flat-reason eps limit m z (of-signs t u e q) l = absurd (omega (arith, z))
+flat-reason eps limit m z (of-flatness t e q) l = flat-found eps limit m _ _ e (l .0)
+flat-reason eps limit m z (of-limit e q) l = absurd (omega (arith, z))
+flat-reason eps limit m z (of-value f e q) l = absurd (omega (arith, z))
+flat-reason eps limit m z (of-derivative f e q) l = absurd (omega (arith, z))
+flat-reason eps limit m z (of-candidate e q) l = absurd (omega (arith, z))
+flat-reason eps limit m z (of-middle e f q) l = absurd (omega (arith, z))
+
+-- ---- of every call that passes 1 to 5
+
+module _ (a : List Float) (m : Method) (eps : Float) (limit : ℕ) (z : atOnce a m eps limit ≡ 0) where
+  told : answer a m eps limit ≡ answerOf a (programOf (ruleOf eps limit) m)
+  told = passed a m eps limit z .is-answer
+
+  ordered-of : Ordered (followsOf m) (givesOf m) (answer a m eps limit .answer) (historyOf a m eps limit)
+  ordered-of = rw told (at-answer a _ (ordered-at a (ruleOf eps limit) m))
+
+  pub events-of : Each (followsOf m) (historyOf a m eps limit)
+  events-of = ordered-of .each
+
+  pub width-of : (root p q : Float) → answer a m eps limit .answer ≡ ByWidth root p q → givesOf m root p q (historyOf a m eps limit)
+  width-of root p q e = subst (λ (x : Answer). Width (givesOf m) x (historyOf a m eps limit)) e (ordered-of .width)
+
+  pub values-listed : answer a m eps limit .progress .tally .values .0 ≡ length (evaluationsIn (historyOf a m eps limit))
+  unfolding counted
+  values-listed = rw (counts-of a m eps limit z) (values-are (historyOf a m eps limit))
+
+  mark-most : markIn (historyOf a m eps limit) ≤ 2 → answer a m eps limit .progress .mark ≤ 2
+  unfolding counted
+  mark-most l = rw (counts-of a m eps limit z) l
+
+  module _ (u v : Float) (s : Bracketed m u v) where
+    traced-of : Traced (followsOf m) (givesOf m) (answer a m eps limit .answer) (historyOf a m eps limit)
+    traced-of = rw told (at-answer a _ (traced-at a (ruleOf eps limit) m u v s))
+
+    pub pairs-there : signsMissed (historyOf a m eps limit) ≡ true → length (pairsIn (historyOf a m eps limit)) ≡ answer a m eps limit .progress .tally .steps .0 + 1
+    unfolding counted
+    pairs-there e = rw (counts-of a m eps limit z) (traced-of .with-pairs e)
+
+    pub pairs-none : signsMissed (historyOf a m eps limit) ≡ false → (pairsIn (historyOf a m eps limit) ≡ []) × (stepsIn (historyOf a m eps limit) ≡ 0) × BeforePairs (answer a m eps limit .answer)
+    pairs-none = traced-of .without
+
+  module _ (d : Held (startsOf m)) where
+    pub flat-of : answer a m eps limit .answer ≡ Refused 7 → Flat eps m (historyOf a m eps limit)
+    flat-of e = flat-reason eps limit m refl (rw e at (reason-of a m eps limit z d)) events-of
+
+-- rules 1 and 2 are all that is noted
+known-rule : (rule : ℕ) (departed : Bool) (h : List Event) → Rules rule departed h → (rule ≡ 1) ⊎ (rule ≡ 2)
+known-rule rule departed h (inl e) = inl e
+known-rule rule departed h (inr t) = inr (t .0)
+
+pub marks-of : (a : List Float) (m : Method) (eps : Float) (limit : ℕ) → atOnce a m eps limit ≡ 0 → Marks m (answer a m eps limit .progress .mark)
+marks-of a (Brent from to) eps limit z = mark-most a _ eps limit z (mark-known _ known-rule _ (events-of a (Brent from to) eps limit z))
+marks-of a (RegulaFalsi from to) eps limit z = two-marks a from to eps limit
+marks-of a (Secant first second) eps limit z = plain-secant a first second eps limit .0
+marks-of a (NewtonRaphson start) eps limit z = plain-newton a start eps limit .0
+marks-of a (Polynom from to) eps limit z = mark-most a _ eps limit z (mark-known _ known-rule _ (events-of a (Polynom from to) eps limit z))
+
+-- 6 is of a bracketing method, and of the values at its starts
+pub six-of :
+    (a : List Float) (m : Method) (eps : Float) (limit : ℕ) → atOnce a m eps limit ≡ 0 → Held (startsOf m) → answer a m eps limit .answer ≡ Refused 6 →
+    (u : Float) × (v : Float) × Bracketed m u v × (sameSign (value a u) (value a v) ≡ true)
+six-of a (Brent from to) eps limit z d e = (from, to, (refl, refl), six-told a (Brent from to) eps limit z d from to (refl, refl) e)
+six-of a (RegulaFalsi from to) eps limit z d e = (from, to, (refl, refl), six-told a (RegulaFalsi from to) eps limit z d from to (refl, refl) e)
+six-of a (Secant first second) eps limit z d e = absurd (plain-secant a first second eps limit .1 e)
+six-of a (NewtonRaphson start) eps limit z d e = absurd (plain-newton a start eps limit .1 e)
+six-of a (Polynom from to) eps limit z d e = (from, to, (refl, refl), six-told a (Polynom from to) eps limit z d from to (refl, refl) e)
