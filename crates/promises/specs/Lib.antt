@@ -3,6 +3,5 @@ pub mod Cases
 pub mod Searches
 pub mod Demand1
 pub mod Demand3
-pub mod Once
 -- lemmas that only proofs read
 pub mod Backing
