@@ -1,10 +1,9 @@
--- What is promised of every search, as theorems. A customer reads Cases, Demand1 and Demand3, with the words in Searches.
+-- What is promised of every search, as theorems. A customer reads Cases, Demand1, Demand3 and Returned, with the words in Searches.
 pub mod Cases
 pub mod Searches
 pub mod Demand1
 pub mod Demand3
 pub mod Returned
-pub mod Once
 -- lemmas that only proofs read
 pub mod EarlyLaws
 pub mod Backing

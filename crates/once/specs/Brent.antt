@@ -1,0 +1,6 @@
+-- Each public function of `brent`: its contract allows one result.
+use Rattle.brent.proofs.find_root.Reads as find-root-reads
+use Rattle.once.specs.One.{One, fixed}
+
+pub find-root-once : One find-root-reads.Learnt
+find-root-once = fixed _ _

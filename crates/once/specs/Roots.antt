@@ -1,0 +1,30 @@
+-- Each public function of `roots`: its contract allows one result.
+use Rattle.roots.proofs.search.Reads as search-reads
+use Rattle.roots.proofs.search_plain.Reads as search-plain-reads
+use Rattle.roots.proofs.find_root_brent.Reads as find-root-brent-reads
+use Rattle.roots.proofs.find_root_regula_falsi.Reads as find-root-regula-falsi-reads
+use Rattle.roots.proofs.find_root_secant.Reads as find-root-secant-reads
+use Rattle.roots.proofs.find_root_newton_raphson.Reads as find-root-newton-raphson-reads
+use Rattle.roots.proofs.find_root_polynom.Reads as find-root-polynom-reads
+use Rattle.once.specs.One.{One, fixed}
+
+pub search-once : One search-reads.Learnt
+search-once = fixed _ _
+
+pub search-plain-once : One search-plain-reads.Learnt
+search-plain-once = fixed _ _
+
+pub find-root-brent-once : One find-root-brent-reads.Learnt
+find-root-brent-once = fixed _ _
+
+pub find-root-regula-falsi-once : One find-root-regula-falsi-reads.Learnt
+find-root-regula-falsi-once = fixed _ _
+
+pub find-root-secant-once : One find-root-secant-reads.Learnt
+find-root-secant-once = fixed _ _
+
+pub find-root-newton-raphson-once : One find-root-newton-raphson-reads.Learnt
+find-root-newton-raphson-once = fixed _ _
+
+pub find-root-polynom-once : One find-root-polynom-reads.Learnt
+find-root-polynom-once = fixed _ _
