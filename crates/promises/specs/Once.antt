@@ -1,10 +1,10 @@
 -- Contracts fix their results: any two results that a public function's contract allows are equal.
 use Prim.Native.Nat.{ℕ}
-use mathlib.Core.Bool.{Bool, _&&_}
+use mathlib.Core.Bool.{Bool}
 use mathlib.Core.List.{List}
 use mathlib.Core.Path.{_≡_, sym, _∙_}
 use lib.IntN.{ℤ}
-use lib.Ieee.{Float, le}
+use lib.Ieee.{Float}
 use lib.Ieee.Scale.{finite}
 use Rattle.doubles.specs.Doubles.{absolute, above, below, sameSign, oppositeSign, orderOf, ofOrder, pulled, outside}
 use Rattle.numerical.specs.Answers.{refusedAtOnce}
@@ -185,6 +185,3 @@ pulled-once u v x = fixed _
 
 pub is-outside-once : (u v x : Float) → Fixed (outside u v x)
 is-outside-once u v x = fixed _
-
-pub is-between-once : (u v x : Float) → Fixed (le u x && le x v)
-is-between-once u v x = fixed _
