@@ -262,33 +262,15 @@ fn keep_b(s: Brent, flag: bool, p: Sample, progress: Progress) -> Turn
     goes_on(moved(s, flag, kept, p), counted.stepped())
 }
 
-// Rule 1: whether the values have opposite signs, with the mark where the product says otherwise. A product that is not zero tells the signs.
+// Rule 1: whether the values have opposite signs. The signs decide, and the product the mark alone: it is set where the product says otherwise.
 fn opposite(p: Sample, q: Sample, progress: Progress) -> Decided
     ensures { λ r. ⌜ r ≡ oppositeBy p q progress ⌝ }
 {
-    let product = p.y * q.y;
-    if product < 0.0 {
-        return Decided {
-            holds: true,
-            progress,
-        };
-    }
-    if product > 0.0 {
-        return Decided {
-            holds: false,
-            progress,
-        };
-    }
-    if doubles::opposite_sign(p.y, q.y) {
-        Decided {
-            holds: true,
-            progress: progress.ruled(1, true),
-        }
-    } else {
-        Decided {
-            holds: false,
-            progress,
-        }
+    let unlike = doubles::opposite_sign(p.y, q.y);
+    let below = doubles::is_below(p.y * q.y);
+    Decided {
+        holds: unlike,
+        progress: progress.ruled(1, unlike != below),
     }
 }
 

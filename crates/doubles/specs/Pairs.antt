@@ -2,14 +2,12 @@
 use mathlib.Core.Path.{_≡_, refl, sym, _∙_, subst}
 use mathlib.Core.Logic.{_↔_, _⊎_, inl, inr}
 use mathlib.Core.List.{List, [], _∷_}
-use mathlib.Core.Bool.{Bool, true, false, cond, _&&_, true≢false, false≢true}
+use mathlib.Core.Bool.{Bool, true, false, cond, true≢false}
 use lib.Dec.{T}
 use lib.IntN.{ℤ}
 use lib.Signed.{_≤ℤ_}
-use lib.Ieee.{Float, nan, inf, fin, lt, le}
+use lib.Ieee.{Float, lt, le}
 use lib.Ieee.Bits.{is-true}
-use lib.Ieee.Fits.{and-l, and-r}
-use lib.Ieee.Scale.{finite}
 use Rattle.doubles.specs.Doubles.{orderOf, clamp, beyond, pulled, lower, higher, outside}
 use Rattle.doubles.specs.Compare.{Num, of-true, same-test, le-nums, le-refl, le-trans, le-total, lt→le, no-lt-le, lt-le-trans, le-lt-trans, clamp-between, clamp-inside, clamp-one, beyond-inside}
 use Rattle.doubles.specs.Number.{Double, le-order}
@@ -149,26 +147,6 @@ inside-not-outside u v x (inr t) = go (le u v) (of-true (le u v))
 -- A point is not outside just when it lies between the two.
 pub outside-inside : (u v x : Float) → Num u → Num v → Num x → (outside u v x ≡ false) ↔ Inside u v x
 outside-inside u v x p q n = (λ h. subst (Inside u v) (pulled-unmoved u v x h) (pulled-inside u v x p q n), inside-not-outside u v x)
-
--- What lies between two finite doubles is finite.
-between-finite : (u v x : Float) → finite u ≡ true → finite v ≡ true → T (le u x) → T (le x v) → finite x ≡ true
-unfolding le
-between-finite nan v x p q h k = absurd (false≢true p)
-between-finite (inf s) v x p q h k = absurd (false≢true p)
-between-finite (fin s m e) nan x p q h k = absurd (false≢true q)
-between-finite (fin s m e) (inf t) x p q h k = absurd (false≢true q)
-between-finite (fin s m e) (fin t n d) nan p q h k = absurd h
-between-finite (fin s m e) (fin t n d) (inf true) p q h k = absurd h
-between-finite (fin s m e) (fin t n d) (inf false) p q h k = absurd k
-between-finite (fin s m e) (fin t n d) (fin u o c) p q h k = refl
-
--- A point from u up to v, which are finite, is finite and not outside.
-pub between-inside : (u v x : Float) → finite u ≡ true → finite v ≡ true → (le u x && le x v) ≡ true → (finite x ≡ true) × (outside u v x ≡ false)
-between-inside u v x p q h =
-    let t : T (le u x && le x v) = of-true _ h in
-    let a = and-l (le u x) (le x v) t in
-    let b = and-r (le u x) (le x v) t in
-    (between-finite u v x p q a b, inside-not-outside u v x (inl (a, b)))
 
 -- What lies outside a pair is beyond the lower and the higher of the two: equal ends may change places.
 pub outside-beyond : (u v x : Float) → beyond (lower u v) (higher u v) x ≡ outside u v x

@@ -1,7 +1,5 @@
 // Doubles: which are finite, their size, signs and order, and a point pulled into a pair.
-ghost use mathlib.Core.Bool.{_&&_};
 ghost use mathlib.Core.Path.{_≡_};
-ghost use lib.Ieee.{le};
 ghost use lib.Ieee.Scale.{finite};
 ghost use Rattle.doubles.specs.Doubles.{absolute, above, below, sameSign, oppositeSign, orderOf, ofOrder, clamp, beyond, pulled, lower, higher, outside};
 
@@ -147,11 +145,4 @@ pub fn is_outside(u: f64, v: f64, x: f64) -> bool
     ensures { λ r. ⌜ r ≡ outside u v x ⌝ }
 {
     is_beyond(lower(u, v), higher(u, v), x)
-}
-
-// Whether x lies from u up to v.
-pub fn is_between(u: f64, v: f64, x: f64) -> bool
-    ensures { λ r. ⌜ r ≡ (le u x && le x v) ⌝ }
-{
-    if u <= x { x <= v } else { false }
 }

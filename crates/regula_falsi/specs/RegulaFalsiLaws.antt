@@ -2,25 +2,20 @@
 use Prim.Native.Nat.{ℕ, _+_, _*_, _≤_}
 use native.Mathlib.Omega.{arith}
 use native.Mathlib.Nat.{mul-one, mul-zero, le-refl}
-use mathlib.Core.Bool.{Bool, true, false}
 use mathlib.Core.List.{List}
-use mathlib.Core.Path.{_≡_, refl, sym, _∙_}
-use lib.Ieee.{Float, binary64, mul, lt}
-use lib.Ieee.Scale.{finite}
-use Rattle.doubles.specs.Doubles.{above, sameSign}
+use mathlib.Core.Path.{_≡_, refl}
+use lib.Ieee.{Float, lt}
 use Rattle.numerical.specs.Answers.{outcome}
-use Rattle.numerical.specs.Tallies.{fresh, steppedOf, markAfter}
+use Rattle.numerical.specs.Tallies.{fresh}
 use Rattle.numerical.specs.declared.Answer.{Answer}
 use Rattle.numerical.specs.declared.Outcome.{Outcome}
 use Rattle.numerical.specs.declared.Progress.{Progress}
-use Rattle.numerical.specs.declared.Sample.{Sample}
-use Rattle.simple_convergency.specs.Stop.{foundAt, turnsOf}
+use Rattle.simple_convergency.specs.Stop.{turnsOf}
 use Rattle.simple_convergency.specs.declared.StopRule.{StopRule}
-use Rattle.searching.specs.Programs.{ruled, log, Turned, next, test, narrowsTo, rising, oracle, play, tallied}
+use Rattle.searching.specs.Programs.{rising, oracle, play, tallied}
 use Rattle.searching.specs.Bounds.{Within, More, within-done, within-test, within-stops, within-ruled, within-pulled, within-value, within-offered, within-bracketed, within-narrows, within-less, within-searches, answer-within}
 use Rattle.searching.specs.LoopLaws.{Turns, runOf, opened-ended, opened-next, Shown, shown-end, shown-go, seen-once}
-use Rattle.regula_falsi.specs.RegulaFalsi.{secondAt, firstAt, ordered, opening, pairOf, leftReplaced, rightReplaced, replacedOf, departs, arrived, landed, pulledIn, turnFrom, illinoisProgram, regulaFalsi, seen}
-use Rattle.regula_falsi.specs.RegulaFalsiWeights.{Sound}
+use Rattle.regula_falsi.specs.RegulaFalsi.{secondAt, firstAt, ordered, opening, pairOf, arrived, landed, pulledIn, turnFrom, illinoisProgram, regulaFalsi, seen}
 use Rattle.regula_falsi.specs.declared.Illinois.{Illinois}
 use Rattle.regula_falsi.specs.declared.To.{To}
 use Rattle.regula_falsi.specs.declared.To.the-variants.{Ended, Next}
@@ -67,22 +62,6 @@ module _ (cs : List Float) (stop : StopRule) (a b : Float) {t : To} {p q : Progr
   pub from-state : {s : Illinois} {n : ℕ} {r : Outcome} → t ≡ Next s → n ≡ turnsOf stop → r ≡ runOf cs (turnFrom stop) n s p → r ≡ regulaFalsi cs stop a b
   unfolding regulaFalsi illinoisProgram
   from-state = opened-next (turns stop) _ _ cs f e
-
--- the product with the left weight is above zero or not: the step of that branch is the definition's, and has no mark
-module _
-    (cs : List Float) (stop : StopRule) (s : Illinois) (p : Sample) (q : Progress) {r : Turned Illinois × Progress} {f h : Bool} {i : Illinois} {w : Progress}
-    (sound : Sound stop s) (number : finite (p .y) ≡ true) (found : h ≡ foundAt stop (p .y)) (missed : h ≡ false)
-    (product : f ≡ above (mul binary64 (p .y) (s .left .weight))) (step : w ≡ steppedOf q) (came : r ≡ (next i, w)) where
-  tells : (above (mul binary64 (p .y) (s .left .weight)) ≡ sameSign (p .y) (s .left .at .y)) × (departs s p ≡ false)
-  tells = sound .tells p number (sym found ∙ missed)
-
-  pub by-left : f ≡ true → i ≡ leftReplaced s p → r ≡ play tallied (oracle cs) (log (ruled 1 (departs s p)) (narrowsTo pairOf (replacedOf s p))) q
-  unfolding replacedOf narrowsTo play markAfter
-  by-left t e = came ∙ rw (e, step, tells .1, ← tells .0, ← product, t) refl
-
-  pub by-right : f ≡ false → i ≡ rightReplaced s p → r ≡ play tallied (oracle cs) (log (ruled 1 (departs s p)) (narrowsTo pairOf (replacedOf s p))) q
-  unfolding replacedOf narrowsTo play markAfter
-  by-right t e = came ∙ rw (e, step, tells .1, ← tells .0, ← product, t) refl
 
 module _ (cs : List Float) (stop : StopRule) (a b : Float) where
   within-search : More (2 + turnsOf stop * 1) (0 + turnsOf stop * 0) (0 + turnsOf stop * 1) fresh (regulaFalsi cs stop a b .progress)

@@ -1,17 +1,15 @@
--- What every state of an Illinois run keeps to, under a rule that was checked: its ends are finite, and its values and halved weights are never so small that a product of them rounds to zero.
+-- What every state of an Illinois run keeps to, under a rule that was checked: its values and halved weights are never so small that a product of them rounds to zero.
 use Prim.Native.Nat.{ℕ, suc, _+_, _≤_}
 use native.Mathlib.Omega.{arith}
 use mathlib.Core.Bool.{Bool, true, false, Bool·beq, true≢false}
 use mathlib.Core.Path.{_≡_, refl, sym, _∙_}
 use lib.Dec.{T}
 use lib.Ieee.{binary64, mul, ofBits}
-use lib.Ieee.Scale.{finite}
 use Rattle.doubles.specs.Doubles.{above, sameSign}
 use Rattle.doubles.specs.Products.{stands}
 use Rattle.doubles.specs.Sizes.{atLeast, half-size, half-stands, sided, same-sign-is, product-tells}
 use Rattle.numerical.specs.declared.Sample.{Sample}
-use Rattle.simple_convergency.specs.Stop.{badEps, foundAt, turnsOf}
-use Rattle.simple_convergency.specs.StopLaws.{not-found-size}
+use Rattle.simple_convergency.specs.Stop.{turnsOf}
 use Rattle.simple_convergency.specs.declared.StopRule.{StopRule}
 use Rattle.regula_falsi.specs.RegulaFalsi.{whole, halved, rightAfter, leftAfter, elsewhere, replacedOf, departs}
 use Rattle.regula_falsi.specs.RegulaFalsiKeeps.{replaced-signs}
@@ -20,9 +18,8 @@ use Rattle.regula_falsi.specs.declared.Edge.{Edge}
 use Rattle.regula_falsi.specs.declared.Edge.the-variants.{EdgeX1, NoEdge, EdgeX2}
 use Rattle.regula_falsi.specs.declared.Illinois.{Illinois}
 
--- an end with n steps left: its point is finite, it weighs 2 ^ -300, halved once a step at most, and its weight has its value's sign
+-- an end with n steps left: it weighs 2 ^ -300, halved once a step at most, and its weight has its value's sign
 pub record Weighs (stop : StopRule) (n : ℕ) (e : End) : Type 0 where
-  pub point : finite (e .at .x) ≡ true
   pub power : ℕ
   pub bound : power + n ≤ 300 + turnsOf stop
   pub size : T (atLeast power (e .weight))
@@ -37,29 +34,22 @@ pub record Heavy (stop : StopRule) (n : ℕ) (s : Illinois) : Type 0 where
   pub apart : sameSign (s .left .at .y) (s .right .at .y) ≡ false
   pub within : n ≤ turnsOf stop
 
--- what the code of a step asks of its state: finite ends, and for a value that isn't found, a product that tells its sign and leads where the signs do
-pub record Sound (stop : StopRule) (s : Illinois) : Type 0 where
-  pub left-finite : finite (s .left .at .x) ≡ true
-  pub right-finite : finite (s .right .at .x) ≡ true
-  pub tells : (p : Sample) → finite (p .y) ≡ true → foundAt stop (p .y) ≡ false → (above (mul binary64 (p .y) (s .left .weight)) ≡ sameSign (p .y) (s .left .at .y)) × (departs s p ≡ false)
-
 module _ (stop : StopRule) (small : stop .limit ≤ 400) where
   few : turnsOf stop ≤ 400
   few = omega (arith, small)
 
   weighs-on : (n : ℕ) (e : End) → Weighs stop (suc n) e → Weighs stop n e
   weighs-on n e w =
-      record { point = w .point; power = w .power; bound = omega (arith, w .bound); size = w .size; side = w .side; weight-side = w .weight-side; value-side = w .value-side }
+      record { power = w .power; bound = omega (arith, w .bound); size = w .size; side = w .side; weight-side = w .weight-side; value-side = w .value-side }
 
-  pub weighs-whole : (n : ℕ) (p : Sample) → finite (p .x) ≡ true → n ≤ turnsOf stop → T (atLeast 300 (p .y)) → Weighs stop n (whole p)
-  weighs-whole n p f l h = let s = sided 300 (p .y) h in record { point = f; power = 300; bound = omega (arith, l); size = h; side = s .0; weight-side = s .1; value-side = s .1 }
+  pub weighs-whole : (n : ℕ) (p : Sample) → n ≤ turnsOf stop → T (atLeast 300 (p .y)) → Weighs stop n (whole p)
+  weighs-whole n p l h = let s = sided 300 (p .y) h in record { power = 300; bound = omega (arith, l); size = h; side = s .0; weight-side = s .1; value-side = s .1 }
 
   weighs-half : (n : ℕ) (e : End) → Weighs stop (suc n) e → Weighs stop n (halved e)
   unfolding ofBits
   weighs-half n e w =
       let room : w .power + 1 ≤ 1074 = omega (arith, w .bound, few) in
       record {
-        point = w .point;
         power = w .power + 1;
         bound = omega (arith, w .bound);
         size = half-size (e .weight) (w .power) room (w .size);
@@ -79,9 +69,9 @@ module _ (stop : StopRule) (small : stop .limit ≤ 400) where
   left-weighs n EdgeX2 e w = weighs-half n e w
 
   -- the next state weighs too
-  pub replaced-heavy : (n : ℕ) (s : Illinois) (p : Sample) → finite (p .x) ≡ true → T (atLeast 300 (p .y)) → Heavy stop (suc n) s → Heavy stop n (replacedOf s p)
+  pub replaced-heavy : (n : ℕ) (s : Illinois) (p : Sample) → T (atLeast 300 (p .y)) → Heavy stop (suc n) s → Heavy stop n (replacedOf s p)
   unfolding replacedOf
-  replaced-heavy n s p f z b = go (sameSign (p .y) (s .left .at .y)) refl
+  replaced-heavy n s p z b = go (sameSign (p .y) (s .left .at .y)) refl
     where
       near : n ≤ turnsOf stop
       near = omega (arith, b .within)
@@ -89,7 +79,7 @@ module _ (stop : StopRule) (small : stop .limit ≤ 400) where
       go : (c : Bool) → sameSign (p .y) (s .left .at .y) ≡ c → Heavy stop n (replacedOf s p)
       go true e =
           record {
-            left-end = rw e (weighs-whole n p f near z);
+            left-end = rw e (weighs-whole n p near z);
             right-end = rw e (right-weighs n (s .edge) (s .right) (b .right-end));
             apart = replaced-signs s p (b .apart);
             within = near;
@@ -97,7 +87,7 @@ module _ (stop : StopRule) (small : stop .limit ≤ 400) where
       go false e =
           record {
             left-end = rw e (left-weighs n (s .edge) (s .left) (b .left-end));
-            right-end = rw e (weighs-whole n p f near z);
+            right-end = rw e (weighs-whole n p near z);
             apart = replaced-signs s p (b .apart);
             within = near;
           }
@@ -135,11 +125,3 @@ module _ (stop : StopRule) (small : stop .limit ≤ 400) where
         same-sign-is (v .0) (r .side) _ _ (v .1) (r .value-side),
       )
       (settled (v .0) (l .side) (r .side) (sym (same-sign-is (l .side) (r .side) _ _ (l .value-side) (r .value-side)) ∙ b .apart))
-
-  pub heavy-sound : (good : badEps (stop .eps) ≡ false) (n : ℕ) (s : Illinois) → Heavy stop n s → Sound stop s
-  heavy-sound good n s b =
-      record {
-        left-finite = b .left-end .point;
-        right-finite = b .right-end .point;
-        tells = λ p f m. let z = not-found-size stop (p .y) good f m in (weight-tells n (s .left) p (b .left-end) z, never-departs n s p z b);
-      }

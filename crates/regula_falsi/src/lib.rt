@@ -5,19 +5,15 @@ use numerical::Progress;
 use numerical::Sample;
 use polynom::Evaluated;
 use simple_convergency::StopRule;
-ghost use mathlib.Core.Bool.{true, false};
 ghost use mathlib.Core.Path.{_≡_};
 ghost use mathlib.Core.List.{List};
 ghost use Prim.Native.Nat.{_≤_};
 ghost use lib.Ieee.{Float};
-ghost use lib.Ieee.Scale.{finite};
 ghost use Rattle.numerical.specs.Tallies.{Room};
 ghost use Rattle.numerical.specs.declared.Answer.the-variants.{ByValue};
-ghost use Rattle.simple_convergency.specs.Stop.{badEps, foundAt};
-ghost use Rattle.searching.specs.Programs.{ended, next, offered, oracle, play, tallied};
+ghost use Rattle.searching.specs.Programs.{ended, next, oracle, play, tallied};
 ghost use Rattle.searching.specs.LoopLaws.{runOf};
-ghost use Rattle.regula_falsi.specs.RegulaFalsiWeights.{Heavy, Sound};
-ghost use Rattle.regula_falsi.specs.RegulaFalsi.{halved, pairOf, secondAt, firstAt, ordered, opening, candidateOf, rightAfter, leftAfter, leftReplaced, rightReplaced, arrived, landed, pulledIn, turnFrom, regulaFalsi, viewed};
+ghost use Rattle.regula_falsi.specs.RegulaFalsi.{halved, secondAt, firstAt, ordered, opening, candidateOf, rightAfter, leftAfter, leftReplaced, rightReplaced, replacedOf, departs, arrived, landed, pulledIn, turnFrom, regulaFalsi, viewed};
 
 // An end of the pair: its sample, and the value that the chord is drawn with.
 pub struct End {
@@ -81,11 +77,13 @@ fn by_value(s: Sample, progress: Progress) -> Turn
 
 // ---- the opening
 
-// Neither value is found: the two have the same sign, or they are the first pair.
+// Both values are there: the second is found, or the two have the same sign, or they are the first pair.
 fn second_at(stop: StopRule, p: Sample, q: Sample, progress: Progress) -> Turn
-    requires { ⌜ foundAt stop (q .y) ≡ false ⌝ }
     ensures { λ r. ⌜ ((cs : List Float) → viewed r ≡ play tallied (oracle cs) (secondAt stop p q) progress) ⌝ }
 {
+    if stop.found(q.y) {
+        return by_value(q, progress);
+    }
     let decided = searching::alike(p, q, progress);
     let marked = decided.progress;
     if decided.holds {
@@ -101,34 +99,29 @@ fn second_at(stop: StopRule, p: Sample, q: Sample, progress: Progress) -> Turn
     )
 }
 
-// The first value isn't found, and the second is evaluated. What is found is finite, so found is tested first.
+// The first value is there: it is found, or the second is worked out.
 fn first_at(a: &[f64], stop: StopRule, x2: f64, p: Sample, progress: Progress) -> Turn
-    requires { ⌜ Room 1 progress × (foundAt stop (p .y) ≡ false) ⌝ }
+    requires { ⌜ Room 1 progress ⌝ }
     ensures { λ r. ⌜ viewed r ≡ play tallied (oracle (now (a .entry))) (firstAt stop x2 p) progress ⌝ }
 {
-    let counted = progress.valued();
-    let y2 = polynom::value(a, x2);
-    if stop.found(y2) {
-        return by_value(Sample { x: x2, y: y2 }, counted);
+    if stop.found(p.y) {
+        return by_value(p, progress);
     }
-    let e = polynom::kept(x2, y2);
+    let counted = progress.valued();
+    let e = polynom::evaluate(a, x2);
     let Evaluated::At(q) = e else {
         return ended(Answer::Refused(9), counted);
     };
     second_at(stop, p, q, counted)
 }
 
-// The opening from starts that are in order. The first value is tested before the second is evaluated.
+// The opening from starts that are in order: the first is evaluated.
 fn ordered(a: &[f64], stop: StopRule, x1: f64, x2: f64, progress: Progress) -> Turn
     requires { ⌜ Room 2 progress ⌝ }
     ensures { λ r. ⌜ viewed r ≡ play tallied (oracle (now (a .entry))) (ordered stop x1 x2) progress ⌝ }
 {
     let counted = progress.valued();
-    let y1 = polynom::value(a, x1);
-    if stop.found(y1) {
-        return by_value(Sample { x: x1, y: y1 }, counted);
-    }
-    let e = polynom::kept(x1, y1);
+    let e = polynom::evaluate(a, x1);
     let Evaluated::At(p) = e else {
         return ended(Answer::Refused(9), counted);
     };
@@ -211,24 +204,47 @@ fn right_replaced(s: Illinois, p: Sample) -> Illinois
     }
 }
 
-// The sample at the candidate is found, or it takes the place of the end whose sign it shares. The product with the left weight tells the sign, and rule 1 has nothing to mark: that is proved of each state.
+// The sample takes the place of the end whose sign it shares.
+fn replaced(s: Illinois, p: Sample) -> Illinois
+    ensures { λ r. ⌜ r ≡ replacedOf s p ⌝ }
+{
+    if doubles::same_sign(p.y, s.left.at.y) {
+        left_replaced(s, p)
+    } else {
+        right_replaced(s, p)
+    }
+}
+
+// Rule 1: whether the Rust, which tests the products with the weights in turn and has a last branch, would go elsewhere.
+fn departs(s: Illinois, p: Sample) -> bool
+    ensures { λ r. ⌜ r ≡ departs s p ⌝ }
+{
+    let same = doubles::same_sign(p.y, s.left.at.y);
+    let first = doubles::is_above(p.y * s.left.weight);
+    if same {
+        !first
+    } else if first {
+        true
+    } else {
+        !doubles::is_above(p.y * s.right.weight)
+    }
+}
+
+// The sample at the candidate is found, or the signs of the samples pick the end that it replaces. The products with the weights decide the mark alone.
 fn arrived(stop: StopRule, s: Illinois, sample: Sample, p: Progress) -> Turn
-    requires { ⌜ Room 1 p × Sound stop s × (finite (sample .y) ≡ true) ⌝ }
+    requires { ⌜ Room 1 p ⌝ }
     ensures { λ r. ⌜ ((cs : List Float) → viewed r ≡ play tallied (oracle cs) (arrived stop s sample) p) ⌝ }
 {
     if stop.found(sample.y) {
         return by_value(sample, p);
     }
-    if doubles::is_above(sample.y * s.left.weight) {
-        goes_on(left_replaced(s, sample), p.stepped())
-    } else {
-        goes_on(right_replaced(s, sample), p.stepped())
-    }
+    let marked = p.ruled(1, departs(s, sample));
+    goes_on(replaced(s, sample), marked.stepped())
 }
 
 // The pair is small enough and x is the answer, or x is evaluated.
 fn landed(a: &[f64], stop: StopRule, s: Illinois, x: f64, p: Progress) -> Turn
-    requires { ⌜ Room 2 p × Sound stop s ⌝ }
+    requires { ⌜ Room 2 p ⌝ }
     ensures { λ r. ⌜ viewed r ≡ play tallied (oracle (now (a .entry))) (landed stop s x) p ⌝ }
 {
     let x1 = s.left.at.x;
@@ -253,7 +269,7 @@ fn landed(a: &[f64], stop: StopRule, s: Illinois, x: f64, p: Progress) -> Turn
 
 // A candidate outside the pair becomes the nearer end.
 fn pulled_in(a: &[f64], stop: StopRule, s: Illinois, x: f64, p: Progress) -> Turn
-    requires { ⌜ Room 2 p × Sound stop s ⌝ }
+    requires { ⌜ Room 2 p ⌝ }
     ensures { λ r. ⌜ viewed r ≡ play tallied (oracle (now (a .entry))) (pulledIn stop s x) p ⌝ }
 {
     let x1 = s.left.at.x;
@@ -262,11 +278,12 @@ fn pulled_in(a: &[f64], stop: StopRule, s: Illinois, x: f64, p: Progress) -> Tur
     landed(a, stop, s, placed.x, placed.progress)
 }
 
-// Any candidate: it is refused if it isn't finite, and pulled.
-fn offered(a: &[f64], stop: StopRule, s: Illinois, x: f64, p: Progress) -> Turn
-    requires { ⌜ Room 3 p × Sound stop s ⌝ }
-    ensures { λ r. ⌜ viewed r ≡ play tallied (oracle (now (a .entry))) (offered x (pulledIn stop s)) p ⌝ }
+// One step: the candidate is refused if it isn't finite, and else pulled.
+fn take_turn(a: &[f64], stop: StopRule, s: Illinois, p: Progress) -> Turn
+    requires { ⌜ Room 3 p ⌝ }
+    ensures { λ r. ⌜ viewed r ≡ play tallied (oracle (now (a .entry))) (turnFrom stop s) p ⌝ }
 {
+    let x = candidate(s);
     if doubles::is_finite_by_size(x) {
         pulled_in(a, stop, s, x, p)
     } else {
@@ -274,26 +291,11 @@ fn offered(a: &[f64], stop: StopRule, s: Illinois, x: f64, p: Progress) -> Turn
     }
 }
 
-// One step. A candidate that lies from the left end up to the right one is finite and not pulled, and most do.
-fn take_turn(a: &[f64], stop: StopRule, s: Illinois, p: Progress) -> Turn
-    requires { ⌜ Room 3 p × Sound stop s ⌝ }
-    ensures { λ r. ⌜ viewed r ≡ play tallied (oracle (now (a .entry))) (turnFrom stop s) p ⌝ }
-{
-    let x = candidate(s);
-    let x1 = s.left.at.x;
-    let x2 = s.right.at.x;
-    if doubles::is_between(x1, x2, x) {
-        landed(a, stop, s, x, p)
-    } else {
-        offered(a, stop, s, x, p)
-    }
-}
-
 // ---- the search
 
 // From a state on: a step at a time, until an end or the limit.
 fn searched(a: &[f64], stop: StopRule, begun: Illinois, progress: Progress, most: u64) -> Outcome
-    requires { ⌜ (most ≤ 400) × Room 2000 progress × Heavy stop most begun × (badEps (stop .eps) ≡ false) × (stop .limit ≤ 400) ⌝ }
+    requires { ⌜ (most ≤ 400) × Room 2000 progress ⌝ }
     ensures { λ r. ⌜ r ≡ runOf (now (a .entry)) (turnFrom stop) most begun progress ⌝ }
 {
     let mut s = begun;
@@ -318,9 +320,9 @@ fn searched(a: &[f64], stop: StopRule, begun: Illinois, progress: Progress, most
     }
 }
 
-// A root by the Illinois form of regula falsi between two finite starts, under a rule that was checked: the opening, and the steps from there.
+// A root by the Illinois form of regula falsi between two points: the opening, and the steps from there.
 pub fn find_root(a: &[f64], stop: StopRule, from: f64, to: f64) -> Outcome
-    requires { ⌜ (stop .limit ≤ 400) × (badEps (stop .eps) ≡ false) × (finite from ≡ true) × (finite to ≡ true) ⌝ }
+    requires { ⌜ stop .limit ≤ 400 ⌝ }
     ensures { λ r. ⌜ r ≡ regulaFalsi (now (a .entry)) stop from to ⌝ }
 {
     let turn = opened(a, stop, from, to, Progress::fresh());

@@ -31,7 +31,6 @@ use Rattle.regula_falsi.specs.RegulaFalsi as illinois
 use Rattle.secant.specs.Secant as secant
 use Rattle.newton_raphson.specs.NewtonRaphson as newton
 use Rattle.polynom_search.specs.PolynomSearch as polynom
-use Rattle.roots.specs.CallLaws.{both-of}
 use Rattle.roots.specs.Calls.{badCount, allFinite, startsOf, foundBy, foundUnder, answer}
 use Rattle.roots.specs.Coefficients.{checkOf, refusedBefore, opens, leavesOpen, afterLook, lookedAt}
 use Rattle.roots.specs.declared.Method.{Method}
@@ -42,17 +41,6 @@ pub record Checking (stop : StopRule) (m : Method) : Type 0 where
   pub few-steps : stop .limit ≤ 400
   pub good-eps : badEps (stop .eps) ≡ false
   pub finite-starts : allFinite (startsOf m) ≡ true
-
--- both starts of an Illinois search are finite
-module _ {stop : StopRule} {m : Method} (c : Checking stop m) {x y : Float} (e : m ≡ RegulaFalsi x y) where
-  starts : (finite x ≡ true) × (finite y ≡ true)
-  starts = both-of x y (rw e at (c .finite-starts))
-
-  pub first-finite : finite x ≡ true
-  first-finite = starts .0
-
-  pub second-finite : finite y ≡ true
-  second-finite = starts .1
 
 -- ---- a search whose first evaluation gives no sample is refused with 9
 

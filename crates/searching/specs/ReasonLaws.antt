@@ -12,7 +12,6 @@ use Rattle.simple_convergency.specs.declared.StopRule.{StopRule}
 use Rattle.polynom.specs.Polynom.{value, valueAndDerivative, evaluated, evaluatedBoth, sampleOf}
 use Rattle.polynom.specs.Terms.{same-value}
 use Rattle.polynom.specs.declared.ValueAndDerivative.{ValueAndDerivative}
-use Rattle.polynom.specs.declared.Evaluated.{Evaluated}
 use Rattle.polynom.specs.declared.Evaluated.the-variants.{At, NotFinite}
 use Rattle.polynom.specs.declared.EvaluatedBoth.the-variants.{Both, NotBothFinite}
 use Rattle.searching.specs.Programs.{stepped, Event, noted}
@@ -44,10 +43,6 @@ module _ (a : List Float) (x : Float) where
       go : (b : Bool) → finite (value a x) ≡ b → cond b (At (sampleOf x (value a x))) NotFinite ≡ At p → finite (p .y) ≡ true
       go true f e = let s : sampleOf x (value a x) ≡ p = cc in ap (λ (q : Sample). finite (q .y)) (sym s) ∙ f
       go false f e = absurd (let z : _≡_ {A = ℕ} 0 1 = cc in omega arith)
-
-  -- as the code has it: what was evaluated, and then matched
-  pub matched-finite : {e : Evaluated} (p : Sample) → e ≡ evaluated a x → e ≡ At p → finite (p .y) ≡ true
-  matched-finite p v k = answered-finite p (sym v ∙ k)
 
   pub answered : finite x ≡ true → (p : Sample) → evaluated a x ≡ At p → Answered a x p
   unfolding evaluated

@@ -1,17 +1,15 @@
 -- The two added rules: what each branch of the code leaves gives what the rule says, and no rule counts anything.
 use Prim.Native.Nat.{ℕ, _≤_}
-use mathlib.Core.Bool.{Bool, true, false}
+use mathlib.Core.Bool.{Bool, true, false, not, Bool·beq}
 use mathlib.Core.Path.{_≡_, refl, _∙_, ap, sym}
-use lib.Ieee.{Float, binary64, mul}
-use Rattle.doubles.specs.Doubles.{above, below, sameSign, outside, pulled}
-use Rattle.doubles.specs.Signs.{opposite-not-same}
+use lib.Ieee.{Float}
+use Rattle.doubles.specs.Doubles.{sameSign, outside, pulled}
 use Rattle.doubles.specs.Pairs.{pulled-unmoved}
-use Rattle.doubles.specs.Products.{product-above, product-below}
 use Rattle.numerical.specs.Tallies.{ruledOf, markAfter, Room}
 use Rattle.numerical.specs.TallyLaws.{room-ruled}
 use Rattle.numerical.specs.declared.Progress.{Progress}
 use Rattle.numerical.specs.declared.Sample.{Sample}
-use Rattle.searching.specs.Programs.{productDeparts}
+use Rattle.searching.specs.Programs.{differ, productDeparts}
 use Rattle.searching.specs.Rules.{placedIn, alikeBy}
 use Rattle.searching.specs.declared.Placed.{Placed}
 use Rattle.searching.specs.declared.Decided.{Decided}
@@ -30,26 +28,12 @@ module _ (u v x : Float) (p : Progress) {f : Bool} (e : f ≡ outside u v x) whe
 
 -- ---- rule 1
 
-module _ (a b : Sample) (p : Progress) where
-  -- the product is above zero
-  pub alike-above : above (mul binary64 (a .y) (b .y)) ≡ true → _≡_ {A = Decided} (record { holds = true; progress = p }) (alikeBy a b p)
-  unfolding markAfter productDeparts
-  alike-above h = rw (h, product-above (a .y) (b .y) h) refl
-
-  -- the product is below zero
-  pub alike-below : above (mul binary64 (a .y) (b .y)) ≡ false → below (mul binary64 (a .y) (b .y)) ≡ true → _≡_ {A = Decided} (record { holds = false; progress = p }) (alikeBy a b p)
-  unfolding markAfter productDeparts
-  alike-below n h = rw (n, opposite-not-same (a .y) (b .y) (product-below (a .y) (b .y) h)) refl
-
-  -- the product is zero, or a NaN
-  module _ {f : Bool} (n : above (mul binary64 (a .y) (b .y)) ≡ false) (e : f ≡ sameSign (a .y) (b .y)) where
-    pub alike-marked : {q : Progress} → f ≡ true → q ≡ ruledOf 1 true p → _≡_ {A = Decided} (record { holds = true; progress = q }) (alikeBy a b p)
-    unfolding productDeparts
-    alike-marked h q = rw (n, ← e, h, q) refl
-
-    pub unlike-unmarked : f ≡ false → _≡_ {A = Decided} (record { holds = false; progress = p }) (alikeBy a b p)
-    unfolding markAfter productDeparts
-    unlike-unmarked h = rw (n, ← e, h) refl
+-- two tests that are not equal differ
+pub unequal-differ : (x y : Bool) → not (Bool·beq x y) ≡ differ x y
+unequal-differ true true = refl
+unequal-differ true false = refl
+unequal-differ false true = refl
+unequal-differ false false = refl
 
 -- what was decided is what the signs say
 pub decided-signs : {w : Decided} {f : Bool} (a b : Sample) (p : Progress) → w ≡ alikeBy a b p → w .holds ≡ f → sameSign (a .y) (b .y) ≡ f

@@ -1,15 +1,14 @@
 -- One law for each word of the language: what the code did there gives what the definition says. They hold for every method.
 use Prim.Native.Nat.{ℕ}
 use native.Mathlib.Omega.{arith}
-use mathlib.Core.Bool.{Bool, true, false, cond, _&&_}
+use mathlib.Core.Bool.{Bool, true, false, cond}
 use mathlib.Core.List.{List}
 use mathlib.Core.Path.{_≡_, refl, _∙_, ap, sym}
-use lib.Ieee.{Float, lt, le}
+use lib.Ieee.{Float, lt}
 use lib.Ieee.Scale.{finite}
 use Rattle.doubles.specs.Doubles.{outside, pulled, sameSign}
-use Rattle.doubles.specs.Pairs.{between-inside, pulled-unmoved}
 use Rattle.doubles.specs.Signs.{small-finite}
-use Rattle.numerical.specs.Tallies.{valuedOf, slopedOf, steppedOf, markAfter, ruledOf}
+use Rattle.numerical.specs.Tallies.{valuedOf, slopedOf, steppedOf, ruledOf}
 use Rattle.numerical.specs.declared.Answer.the-variants.{Refused}
 use Rattle.numerical.specs.declared.Interval.{Interval}
 use Rattle.numerical.specs.declared.Progress.{Progress}
@@ -142,16 +141,6 @@ module _ {S : Type 0} (cs : List Float) (p : Progress) {r : Turned S × Progress
       f ≡ finite y → f ≡ false → y ≡ x → r ≡ (ended (Refused 9), p) → r ≡ play tallied (oracle cs) (offered x k) p
   unfolding offered test play
   by-no-offer x k f t y g = g ∙ rw (← y, ← f, t) refl
-
-  -- a candidate that lies from one finite end up to the other is finite and not pulled
-  pub by-between :
-      {f : Bool} {y : Float} (u v x : Float) (k : Float → Prog (Turned S)) →
-      finite u ≡ true → finite v ≡ true → f ≡ (le u y && le y v) → f ≡ true → y ≡ x →
-      r ≡ play tallied (oracle cs) (k y) p → r ≡ play tallied (oracle cs) (offered x (λ z. pulledInto u v z k)) p
-  unfolding markAfter
-  by-between {y = y} u v x k a b f t e g =
-      let i = between-inside u v y a b (sym f ∙ t) in
-      by-offer x _ (sym (i .0)) refl e (by-pulled cs p u v y k (sym (i .1)) refl (sym (pulled-unmoved u v y (i .1))) g)
 
   -- the definition decides the order of the starts, and the code has decided it
   pub by-rising :

@@ -30,33 +30,15 @@ pub fn pull(u: f64, v: f64, x: f64, progress: Progress) -> Placed
     }
 }
 
-// Rule 1: whether both values are above zero or both below, with the mark where the product says otherwise. A product that is not zero tells the signs.
+// Rule 1: whether both values are above zero or both below. The signs decide, and the product the mark alone: it is set where the product says otherwise.
 pub fn alike(p: Sample, q: Sample, progress: Progress) -> Decided
     ensures { λ r. ⌜ r ≡ alikeBy p q progress ⌝ }
 {
-    let product = p.y * q.y;
-    if product > 0.0 {
-        return Decided {
-            holds: true,
-            progress,
-        };
-    }
-    if product < 0.0 {
-        return Decided {
-            holds: false,
-            progress,
-        };
-    }
-    if doubles::same_sign(p.y, q.y) {
-        Decided {
-            holds: true,
-            progress: progress.ruled(1, true),
-        }
-    } else {
-        Decided {
-            holds: false,
-            progress,
-        }
+    let same = doubles::same_sign(p.y, q.y);
+    let above = doubles::is_above(p.y * q.y);
+    Decided {
+        holds: same,
+        progress: progress.ruled(1, same != above),
     }
 }
 

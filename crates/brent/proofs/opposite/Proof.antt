@@ -1,25 +1,21 @@
-use Rattle.brent.specs.BrentRule.{opposite-below, opposite-above, opposite-marked, opposite-unmarked}
+use Rattle.searching.specs.RuleLaws.{unequal-differ}
+use Rattle.brent.specs.Brent.{stepDeparts}
 use borrow.Author.Needs.{needs}
 use Rattle.brent.proofs.opposite.Statement.{statement}
 use Rattle.brent.proofs.opposite.Tie as tie
 
-returns : tie.Need-returns
-returns c = search opposite-below
-
-returns-2 : tie.Need-returns-2
-returns-2 c = search opposite-above
-
 opposite-sign-requires : tie.Need-opposite-sign-requires
 opposite-sign-requires c κs = search needs
+
+is-below-requires : tie.Need-is-below-requires
+is-below-requires c κs = search needs
 
 ruled-requires : tie.Need-ruled-requires
 ruled-requires c κs = search needs
 
-returns-3 : tie.Need-returns-3
-returns-3 c = search opposite-marked
-
-returns-4 : tie.Need-returns-4
-returns-4 c = search opposite-unmarked
+returns : tie.Need-returns
+unfolding stepDeparts
+returns c = rw (c .ruled .ensures, ← c .before .before .before .before .opposite-sign .ensures, ← c .before .is-below .ensures, ← unequal-differ)
 
 pub opposite-spec : {M : Type 1} → statement M
-opposite-spec = tie.close (tie.spec returns returns-2 opposite-sign-requires ruled-requires returns-3 returns-4)
+opposite-spec = tie.close (tie.spec opposite-sign-requires is-below-requires ruled-requires returns)

@@ -1,6 +1,5 @@
 use Rattle.regula_falsi.specs.RegulaFalsi.{landed}
 use Rattle.searching.specs.StepLaws.{steps}
-use Rattle.searching.specs.ReasonLaws.{matched-finite}
 use Rattle.numerical.specs.TallyLaws.{room}
 use borrow.Author.Needs.{needs}
 use Rattle.regula_falsi.proofs.landed.Statement.{statement}
@@ -36,7 +35,7 @@ unfolding landed
 returns-2 c = search steps
 
 arrived-requires : tie.Need-arrived-requires
-arrived-requires c κs = (search (needs, room), search needs, search matched-finite)
+arrived-requires c κs = search (needs, room)
 
 returns-3 : tie.Need-returns-3
 unfolding landed

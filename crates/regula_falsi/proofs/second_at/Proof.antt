@@ -1,8 +1,18 @@
-use Rattle.searching.specs.StepLaws.{missed-first, steps}
+use Rattle.searching.specs.StepLaws.{steps}
 use Rattle.regula_falsi.specs.RegulaFalsi.{secondAt}
 use borrow.Author.Needs.{needs}
 use Rattle.regula_falsi.proofs.second_at.Statement.{statement}
 use Rattle.regula_falsi.proofs.second_at.Tie as tie
+
+found-requires : tie.Need-found-requires
+found-requires c κs = search needs
+
+by-value-requires : tie.Need-by-value-requires
+by-value-requires c κs = search needs
+
+returns : tie.Need-returns
+unfolding secondAt
+returns c = λ cs. search steps
 
 alike-requires : tie.Need-alike-requires
 alike-requires c κs = search needs
@@ -10,17 +20,26 @@ alike-requires c κs = search needs
 ended-requires : tie.Need-ended-requires
 ended-requires c κs = search needs
 
-returns : tie.Need-returns
+returns-2 : tie.Need-returns-2
 unfolding secondAt
-returns c = λ cs. search (missed-first, steps)
+returns-2 c = λ cs. search steps
 
 goes-on-requires : tie.Need-goes-on-requires
 goes-on-requires c κs = search needs
 
-returns-2 : tie.Need-returns-2
+returns-3 : tie.Need-returns-3
 unfolding secondAt
-returns-2 c = λ cs. search (missed-first, steps)
+returns-3 c = λ cs. search steps
 
 pub second-at-spec : {M : Type 1} → statement M
 second-at-spec =
-    tie.close (tie.spec alike-requires ended-requires returns goes-on-requires returns-2)
+    tie.close
+    (tie.spec
+    found-requires
+    by-value-requires
+    returns
+    alike-requires
+    ended-requires
+    returns-2
+    goes-on-requires
+    returns-3)

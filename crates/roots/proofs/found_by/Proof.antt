@@ -1,5 +1,4 @@
 use Rattle.roots.specs.CallLaws.{by-method}
-use Rattle.roots.specs.CoefficientLaws.{first-finite, second-finite}
 use borrow.Author.Needs.{needs}
 use Rattle.roots.proofs.found_by.Statement.{statement}
 use Rattle.roots.proofs.found_by.Tie as tie
@@ -18,7 +17,7 @@ enum-known-method-2 : tie.Need-enum-known-method-2
 enum-known-method-2 c = search needs
 
 find-root-requires-2 : tie.Need-find-root-requires-2
-find-root-requires-2 c κs = (search needs, search needs, search first-finite, search second-finite)
+find-root-requires-2 c κs = search needs
 
 enum-known-method-3 : tie.Need-enum-known-method-3
 enum-known-method-3 c = search needs
