@@ -1,17 +1,20 @@
--- The test `x != x`, and a pattern's low 63 bits as a signed number. Assumes nothing.
-use mathlib.Core.Path.{_≡_, refl, ap, _∙_}
-use Prim.Native.Nat.{ℕ, zero, suc, _/_, _%_, _<_, _^_}
+-- The test `x != x`, the patterns of a NaN, and a pattern's low 63 bits as a signed number. Assumes nothing.
+use mathlib.Core.Path.{_≡_, refl, sym, ap, _∙_}
+use Prim.Native.Nat.{ℕ, zero, suc, _/_, _%_, _≤_, _<_, _^_}
 use native.Mathlib.Nat.{le-of-lt, mod-lt}
 use native.Mathlib.Omega.{arith}
-use mathlib.Core.Bool.{false, true≢false}
+use mathlib.Core.Bool.{true, false, not, true≢false}
+use lib.Dec.{T}
 use lib.Bits.{bitAnd, and-mask, mask-lt}
 use lib.Pow.{pow-pos}
 use lib.IntN.{pos, negℤ, _-ℤ_, +ℤ-idl}
-use lib.Ieee.{Float, nan, inf, fin, ne, isNan}
+use lib.Ieee.{Float, nan, inf, fin, binary64, ofBits, toBits, nanBits, isNan, ne}
+use lib.Ieee.Bits.{nanBits-is, nanBits-above}
+use lib.Ieee.Compare.{differs-from-itself}
 use mir.Syntax.{w64}
 use mir.Val.{SFits, toZ, ofZ}
 use mir.Facts.{toZ-pos, toZ-ofZ}
-use borrow.Author.Tests.{le-leb, lt-leb}
+use borrow.Author.Tests.{le-leb, lt-leb, le-ltb, lt-ltb}
 use Rattle.doubles.specs.Doubles.{signed63}
 
 pub not-nan : (x : Float) → ne x x ≡ false → isNan x ≡ false
@@ -19,6 +22,25 @@ unfolding ne isNan
 not-nan nan h = absurd (true≢false h)
 not-nan (inf s) h = refl
 not-nan (fin s m e) h = refl
+
+-- Below and at an infinity's bits there is no NaN.
+pub no-nan-pattern : (n : ℕ) → n % 0x8000_0000_0000_0000 ≤ 0x7ff0_0000_0000_0000 → T (not (nanBits binary64 n))
+no-nan-pattern n h = rw (nanBits-above binary64 n, le-ltb 0x7ff0_0000_0000_0000 (n % 0x8000_0000_0000_0000) h) tt
+
+only-nan : (x : Float) → isNan x ≡ true → nan ≡ x
+unfolding isNan
+only-nan nan h = refl
+only-nan (inf s) h = cc
+only-nan (fin s m e) h = cc
+
+pub nan-pattern : (n : ℕ) → 0x7ff0_0000_0000_0000 < n % 0x8000_0000_0000_0000 → nan ≡ ofBits binary64 n
+nan-pattern n h =
+    only-nan (ofBits binary64 n)
+    (sym (nanBits-is binary64 n) ∙ nanBits-above binary64 n ∙ lt-ltb 0x7ff0_0000_0000_0000 (n % 0x8000_0000_0000_0000) h)
+
+pub nan-written : (x : Float) → ne x x ≡ true → 0x7ff8_0000_0000_0000 ≡ toBits binary64 x
+unfolding toBits
+nan-written x h = rw (differs-from-itself x (rw h tt))
 
 neg-small : (n : ℕ) → n < 2 ^ 63 → SFits w64 (negℤ (pos n))
 neg-small zero h = record { sfits = h }

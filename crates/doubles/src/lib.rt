@@ -1,7 +1,29 @@
-// Doubles: which are finite, their size, signs and order, and a point pulled into a pair.
+// Doubles: their bit patterns, which are finite, their size, signs and order, and a point pulled into a pair.
 ghost use mathlib.Core.Path.{_≡_};
+ghost use lib.Ieee.{binary64, ofBits, toBits};
 ghost use lib.Ieee.Scale.{finite};
 ghost use Rattle.doubles.specs.Doubles.{absolute, above, below, sameSign, oppositeSign, orderOf, ofOrder, clamp, beyond, pulled, lower, higher, outside};
+
+// The double with these bits. The logic and from_bits know one NaN, so each of its patterns gives that one.
+pub fn from_pattern(n: u64) -> f64
+    ensures { λ r. ⌜ r ≡ ofBits binary64 n ⌝ }
+{
+    if n % 0x8000_0000_0000_0000 <= 0x7ff0_0000_0000_0000 {
+        f64::from_bits(n)
+    } else {
+        0.0 / 0.0
+    }
+}
+
+// The bits of a double: of a NaN those with the sign clear and the highest digit set.
+pub fn pattern(x: f64) -> u64
+    ensures { λ r. ⌜ r ≡ toBits binary64 x ⌝ }
+{
+    if x != x {
+        return 0x7ff8_0000_0000_0000;
+    }
+    f64::to_bits(x)
+}
 
 // Whether x is a number and its eleven exponent bits are not all ones.
 pub fn is_finite(x: f64) -> bool

@@ -1,24 +1,8 @@
-// Answers calls of the searches, one a line.
-//
-// In: METHOD COUNT A0 .. START [START] EPS LIMIT, with a space or more between two fields. METHOD is 1 Brent, 2 Illinois,
-// 3 secant, 4 Newton, which has one start, 5 polynomial search. COUNT, up to 40, and LIMIT are decimal, doubles the 16
-// hexadecimal digits of their bits. A carriage return may stand before the line feed, and the last line may lack both.
-//
-// Out: KIND NUMBERS.. STEPS VALUES DERIVATIVES MARK. KIND is 0 by value, with the root and its value, 1 by width, with the
-// root and two points, otherwise 10 plus the refusal's number. What is not a call gets `error` and the first reason of
-// empty, method, count, number, limit, trailing; a line of more than 1,024 bytes gets `error too long`.
-mod bits;
-mod call;
-mod digits;
-mod fields;
-mod input;
-mod reply;
-mod text;
-
-ghost use Rattle.lines.specs.Inputs.{Idle, Begun};
-use input::State;
+// Answers calls of the searches, one a line of up to 1,024 bytes. The crate line_text says how lines are written.
+ghost use Rattle.line_text.specs.Inputs.{Idle, Begun};
 use libc::STDIN_FILENO;
 use libc::STDOUT_FILENO;
+use line_text::input::State;
 
 // Where things stand between two blocks, and whether to go on.
 struct Turn {
@@ -30,12 +14,12 @@ struct Turn {
 fn answered(block: &[u8], line: &mut [u8], out: &mut [u8], start: State) -> Turn
     requires { ⌜ Idle (now line) (now out) start ⌝ }
     ensures { λ r. ⌜ Idle (now (line .exit)) (now (out .exit)) (r .state) ⌝ }
-    ensures { λ r. ⌜ Begun (now (block .entry)) (now (line .entry)) start (now (line .exit)) r ⌝ }
+    ensures { λ r. ⌜ Begun (now (block .entry)) (now (line .entry)) start (now (line .exit)) (r .«is_open») (r .state) ⌝ }
 {
     let mut s = start;
     let mut at = 0;
     while at < block.len() {
-        let p = input::fed(block, at, line, out, s);
+        let p = line_text::input::fed(block, at, line, out, s);
         let waiting = p.state.waiting;
         let is_written = io::write_all(STDOUT_FILENO, &out[..waiting]);
         s = State {
@@ -64,7 +48,7 @@ fn closed(line: &[u8], out: &mut [u8], s: State) -> Turn
 {
     let kept = s.kept;
     if 0 < kept {
-        let end = reply::put_line(&line[..kept], s.is_long, out, 0);
+        let end = line_text::reply::put_line(&line[..kept], s.is_long, out, 0);
         io::write_all(STDOUT_FILENO, &out[..end]);
     }
     Turn {

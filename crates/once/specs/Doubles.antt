@@ -1,5 +1,7 @@
 -- Each public function of `doubles`: its contract allows one result.
+use Rattle.doubles.proofs.from_pattern.Reads as from-pattern-reads
 use Rattle.doubles.proofs.is_finite.Reads as is-finite-reads
+use Rattle.doubles.proofs.pattern.Reads as pattern-reads
 use Rattle.doubles.proofs.abs.Reads as abs-reads
 use Rattle.doubles.proofs.is_finite_by_size.Reads as is-finite-by-size-reads
 use Rattle.doubles.proofs.is_above.Reads as is-above-reads
@@ -10,8 +12,13 @@ use Rattle.doubles.proofs.order_of.Reads as order-of-reads
 use Rattle.doubles.proofs.of_order.Reads as of-order-reads
 use Rattle.doubles.proofs.pulled.Reads as pulled-reads
 use Rattle.doubles.proofs.is_outside.Reads as is-outside-reads
-use Rattle.doubles.proofs.is_between.Reads as is-between-reads
 use Rattle.once.specs.One.{One, fixed}
+
+pub from-pattern-once : One from-pattern-reads.Learnt
+from-pattern-once = fixed _ _
+
+pub pattern-once : One pattern-reads.Learnt
+pattern-once = fixed _ _
 
 pub is-finite-once : One is-finite-reads.Learnt
 is-finite-once = fixed _ _
@@ -45,6 +52,3 @@ pulled-once = fixed _ _
 
 pub is-outside-once : One is-outside-reads.Learnt
 is-outside-once = fixed _ _
-
-pub is-between-once : One is-between-reads.Learnt
-is-between-once = fixed _ _

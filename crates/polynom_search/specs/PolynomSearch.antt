@@ -1,6 +1,7 @@
 -- The polynomial search, step by step as find_root of polynom.rs has it. Definitions only.
 use mathlib.Core.Bool.{Bool, false, cond}
 use lib.Ieee.{Float, binary64, sub, div, lt, le, ne}
+use lib.Ieee.Scale.{finite}
 use mathlib.Core.List.{List}
 use Rattle.numerical.specs.declared.Answer.{Answer}
 use Rattle.numerical.specs.declared.Answer.the-variants.{ByWidth}
@@ -14,6 +15,9 @@ use Rattle.doubles.specs.Doubles.{nought, absolute, sameSign}
 use Rattle.numerical.specs.Middle.{middleOf}
 use Rattle.polynom.specs.declared.ValueAndDerivative.{ValueAndDerivative}
 use Rattle.searching.specs.Programs.{rising, found, converged, ruled, Prog, log, Turned, ended, next, test, stops, answers, byValue, valueAt, bothAt, offered, pulledInto, productDeparts, bracketed, narrowsTo, searches, answerOf}
+use Rattle.searching.specs.Rules.{placedIn}
+use Rattle.polynom_search.specs.declared.Middle.{Middle}
+use Rattle.polynom_search.specs.declared.Middle.the-variants.{In, NotFinite}
 use Rattle.polynom_search.specs.declared.To.{To}
 use Rattle.polynom_search.specs.declared.To.the-variants.{Ended, Next}
 use Rattle.polynom_search.specs.declared.Turn.{Turn}
@@ -102,7 +106,11 @@ polynomProgram stop a b = searches (opening stop a b) (λ r. turnsOf stop) (turn
 unfoldable pub polynomSearch : List Float → StopRule → Float → Float → Outcome
 polynomSearch cs stop a b = answerOf cs (polynomProgram stop a b)
 
--- ---- what a turn of the code stands for
+-- ---- what the code's own values stand for
+
+-- `middle` pulled into the pair, with the mark of that, unless it isn't finite
+abbrev pub middleIn : Interval → Progress → Middle
+middleIn i p = cond (finite (middleOf i)) (In (placedIn (i .begin .x) (i .end .x) (middleOf i) p)) NotFinite
 
 abbrev pub seen : To → Turned Interval
 seen (Ended a) = ended a

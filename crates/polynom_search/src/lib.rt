@@ -7,6 +7,7 @@ use numerical::Sample;
 use polynom::Evaluated;
 use polynom::EvaluatedBoth;
 use polynom::ValueAndDerivative;
+use searching::Placed;
 use simple_convergency::StopRule;
 ghost use mathlib.Core.Path.{_≡_};
 ghost use mathlib.Core.List.{List};
@@ -17,13 +18,18 @@ ghost use Rattle.numerical.specs.declared.Answer.the-variants.{ByValue};
 ghost use Rattle.simple_convergency.specs.declared.StopRule.{StopRule};
 ghost use Rattle.searching.specs.Programs.{ended, next, oracle, play, tallied};
 ghost use Rattle.searching.specs.LoopLaws.{runOf};
-ghost use Rattle.polynom_search.specs.PolynomSearch.{secondAt, firstAt, ordered, opening, chosen, closer, newtonPoint, inPair, atMiddle, stepAt, turnFrom, polynomSearch, viewed};
-ghost use Rattle.polynom_search.specs.Narrowing.{convergedOr, narrowing};
+ghost use Rattle.polynom_search.specs.PolynomSearch.{secondAt, firstAt, ordered, opening, chosen, closer, newtonPoint, inPair, atMiddle, stepAt, widthAt, middleIn, atMiddleOf, turnFrom, polynomSearch, viewed};
 
 // Where a turn leads: to the search's end, or to the next pair.
 pub enum To {
     Ended(Answer),
     Next(Interval),
+}
+
+// `middle` in the pair, with what the run has done before it is used, or that it is not finite.
+pub enum Middle {
+    In(Placed),
+    NotFinite,
 }
 
 // A turn of the search, with what the run has done after it.
@@ -173,38 +179,48 @@ fn step_at(a: &[f64], i: Interval, x: f64, progress: Progress) -> Turn
     at_middle(a, i, v, counted)
 }
 
-// With x for `middle`: an answer by width, or a step.
-fn converged_or(a: &[f64], stop: StopRule, i: Interval, x: f64, progress: Progress) -> Turn
-    requires { ⌜ Room 3 progress ⌝ }
-    ensures { λ r. ⌜ viewed r ≡ play tallied (oracle (now (a .entry))) (convergedOr stop i x) progress ⌝ }
-{
-    if stop.converged(i.begin.x, i.end.x) {
-        return ended(
-            Answer::ByWidth {
-                root: x,
-                p: i.begin.x,
-                q: i.end.x,
-            },
-            progress,
-        );
-    }
-    step_at(a, i, x, progress)
-}
-
-// Neither end is found: `middle` is needed either way. It is refused where it is not finite, and else pulled.
-fn narrow(a: &[f64], stop: StopRule, i: Interval, progress: Progress) -> Turn
-    requires { ⌜ Room 3 progress ⌝ }
-    ensures { λ r. ⌜ viewed r ≡ play tallied (oracle (now (a .entry))) (narrowing stop i) progress ⌝ }
+// `middle`, pulled into the pair, unless it is not finite.
+fn middle_in(i: Interval, progress: Progress) -> Middle
+    ensures { λ r. ⌜ r ≡ middleIn i progress ⌝ }
 {
     let x = i.middle();
     if doubles::is_finite_by_size(x) {
         let u = i.begin.x;
         let v = i.end.x;
-        let placed = searching::pull(u, v, x, progress);
-        converged_or(a, stop, i, placed.x, placed.progress)
+        Middle::In(searching::pull(u, v, x, progress))
     } else {
-        ended(Answer::Refused(9), progress)
+        Middle::NotFinite
     }
+}
+
+// The pair has converged: `middle` is the root, by width.
+fn by_width(i: Interval, progress: Progress) -> Turn
+    ensures { λ r. ⌜ ((cs : List Float) → viewed r ≡ play tallied (oracle cs) (atMiddleOf i (widthAt i)) progress) ⌝ }
+{
+    let m = middle_in(i, progress);
+    let Middle::In(placed) = m else {
+        return ended(Answer::Refused(9), progress);
+    };
+    ended(
+        Answer::ByWidth {
+            root: placed.x,
+            p: i.begin.x,
+            q: i.end.x,
+        },
+        placed.progress,
+    )
+}
+
+// The pair has not converged: a step from `middle`.
+fn narrow(a: &[f64], i: Interval, progress: Progress) -> Turn
+    requires { ⌜ Room 3 progress ⌝ }
+    ensures { λ r. ⌜ viewed r ≡ play tallied (oracle (now (a .entry))) (atMiddleOf i (stepAt i)) progress ⌝ }
+{
+    let m = middle_in(i, progress);
+    let Middle::In(placed) = m else {
+        return ended(Answer::Refused(9), progress);
+    };
+    step_at(a, i, placed.x, placed.progress)
 }
 
 // The sample's point is the root.
@@ -220,7 +236,7 @@ fn by_value(p: Sample, progress: Progress) -> Turn
     )
 }
 
-// One round: found at begin, found at end, and else narrowed.
+// One round: found at begin, found at end, then converged, and else a step.
 fn take_turn(a: &[f64], stop: StopRule, i: Interval, progress: Progress) -> Turn
     requires { ⌜ Room 3 progress ⌝ }
     ensures { λ r. ⌜ viewed r ≡ play tallied (oracle (now (a .entry))) (turnFrom stop i) progress ⌝ }
@@ -231,8 +247,10 @@ fn take_turn(a: &[f64], stop: StopRule, i: Interval, progress: Progress) -> Turn
         by_value(begin, progress)
     } else if stop.found(end.y) {
         by_value(end, progress)
+    } else if stop.converged(begin.x, end.x) {
+        by_width(i, progress)
     } else {
-        narrow(a, stop, i, progress)
+        narrow(a, i, progress)
     }
 }
 

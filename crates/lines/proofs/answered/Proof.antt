@@ -3,9 +3,9 @@ use mathlib.Core.Path.{_≡_, refl}
 use Prim.Native.Nat.{_≤_, _-_}
 use borrow.Author.Needs.{needs}
 use lib.ListN.{length, drop}
-use Rattle.lines.specs.Inputs.{Idle, lineOf, lineAfter}
-use Rattle.lines.specs.InputLaws.{part-on, part-last}
-use Rattle.lines.specs.ReplyLaws.{count-of-part}
+use Rattle.line_text.specs.Inputs.{Idle, lineOf, lineAfter}
+use Rattle.line_text.specs.InputLaws.{part-on, part-last}
+use Rattle.line_text.specs.ReplyLaws.{count-of-part}
 use Rattle.lines.proofs.answered.Statement.{statement}
 use Rattle.lines.proofs.answered.Tie as tie
 

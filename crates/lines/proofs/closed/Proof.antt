@@ -1,6 +1,6 @@
 use native.Mathlib.Omega.{arith}
 use borrow.Author.Needs.{needs}
-use Rattle.lines.specs.ReplyLaws.{count-of-part}
+use Rattle.line_text.specs.ReplyLaws.{count-of-part}
 use Rattle.lines.proofs.closed.Statement.{statement}
 use Rattle.lines.proofs.closed.Tie as tie
 

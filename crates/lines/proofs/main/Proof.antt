@@ -1,7 +1,7 @@
 use mathlib.Core.Path.{_≡_}
 use borrow.Author.Needs.{needs}
 use lib.ListN.{length}
-use Rattle.lines.specs.Inputs.{Idle}
+use Rattle.line_text.specs.Inputs.{Idle}
 use Rattle.lines.proofs.main.Statement.{statement}
 use Rattle.lines.proofs.main.Tie as tie
 

@@ -1,7 +1,7 @@
 use mathlib.Core.Logic.{⊎-elim}
 use Rattle.searching.specs.StepLaws.{steps}
 use Rattle.numerical.specs.TallyLaws.{room}
-use Rattle.polynom_search.specs.Narrowing.{by-no-slope, by-newton, by-no-newton}
+use Rattle.polynom_search.specs.TurnLaws.{by-no-slope, by-newton, by-no-newton}
 use borrow.Author.Needs.{needs}
 use Rattle.polynom_search.proofs.at_middle.Statement.{statement}
 use Rattle.polynom_search.proofs.at_middle.Tie as tie

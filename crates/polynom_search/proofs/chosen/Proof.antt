@@ -1,5 +1,5 @@
 use Rattle.searching.specs.RuleLaws.{rules-room}
-use Rattle.polynom_search.specs.Narrowing.{by-begin-replaced, by-end-replaced}
+use Rattle.polynom_search.specs.TurnLaws.{by-begin-replaced, by-end-replaced}
 use borrow.Author.Needs.{needs}
 use Rattle.polynom_search.proofs.chosen.Statement.{statement}
 use Rattle.polynom_search.proofs.chosen.Tie as tie

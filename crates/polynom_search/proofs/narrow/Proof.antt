@@ -1,42 +1,37 @@
-use Rattle.searching.specs.StepLaws.{steps}
-use Rattle.searching.specs.RuleLaws.{rules-room}
-use Rattle.polynom_search.specs.PolynomSearch.{atMiddleOf, pulledIn}
-use Rattle.polynom_search.specs.Narrowing.{narrowing}
+use Rattle.polynom_search.specs.TurnLaws.{by-middle, by-no-middle, room-middle}
 use borrow.Author.Needs.{needs}
 use Rattle.polynom_search.proofs.narrow.Statement.{statement}
 use Rattle.polynom_search.proofs.narrow.Tie as tie
 
-middle-requires : tie.Need-middle-requires
-middle-requires c κs = search needs
+middle-in-requires : tie.Need-middle-in-requires
+middle-in-requires c κs = search needs
 
-is-finite-by-size-requires : tie.Need-is-finite-by-size-requires
-is-finite-by-size-requires c κs = search needs
+enum-known-m : tie.Need-enum-known-m
+enum-known-m c = search needs
 
-pull-requires : tie.Need-pull-requires
-pull-requires c κs = search needs
-
-converged-or-requires : tie.Need-converged-or-requires
-converged-or-requires c κs = search (needs, rules-room)
+enum-told : tie.Need-enum-told
+enum-told c = search needs
 
 ended-requires : tie.Need-ended-requires
 ended-requires c κs = search needs
 
 returns : tie.Need-returns
-unfolding narrowing atMiddleOf pulledIn
-returns c = search steps
+returns c = search by-no-middle
+
+step-at-requires : tie.Need-step-at-requires
+step-at-requires c κs = search (needs, room-middle)
 
 returns-2 : tie.Need-returns-2
-unfolding narrowing atMiddleOf
-returns-2 c = search steps
+returns-2 c = search by-middle
 
 pub narrow-spec : {M : Type 1} → statement M
 narrow-spec =
     tie.close
     (tie.spec
-    middle-requires
-    is-finite-by-size-requires
-    pull-requires
-    converged-or-requires
+    middle-in-requires
+    enum-known-m
+    enum-told
     ended-requires
     returns
+    step-at-requires
     returns-2)

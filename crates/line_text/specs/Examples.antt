@@ -1,0 +1,97 @@
+-- Texts worked out. Assumes nothing.
+use mathlib.Core.Bool.{true}
+use mathlib.Core.List.{[], _∷_}
+use mathlib.Core.Path.{_≡_, refl}
+use lib.Ieee.{Float, binary64, ofBits, ofFields, nan, inf}
+use Rattle.roots.specs.declared.Method.the-variants.{Brent, NewtonRaphson}
+use Rattle.line_text.specs.Digits.{digitOf, numberFrom, decimalOf, wordOf}
+use Rattle.line_text.specs.Fields.{fieldOf, restOf}
+use Rattle.line_text.specs.Calls.{call, no-call, methodNumber, startsOf, methodOf, withLimit, withDoubles, withCount, askedOf}
+use Rattle.line_text.specs.Texts.{bytes, decimalText, hexText, trimmed, replyTo}
+use Rattle.line_text.specs.Inputs.{fresh, grown, nextLine, replyAt, lineAfter, repliesTo}
+use Rattle.line_text.specs.declared.digits.Number.the-variants.{Is, Wrong}
+use Rattle.line_text.specs.declared.call.Reason.the-variants as reason
+
+abbrev nought : Float
+nought = ofBits binary64 0x0000_0000_0000_0000
+
+abbrev two : Float
+two = ofBits binary64 0x4000_0000_0000_0000
+
+abbrev minusOne : Float
+minusOne = ofBits binary64 0xbff0_0000_0000_0000
+
+-- 1/1024
+abbrev small : Float
+small = ofBits binary64 0x3f50_0000_0000_0000
+
+-- 1/1024, in either case of letters; 15 digits, and a letter behind f, are no word
+words :
+    (wordOf (bytes "3f50000000000000") ≡ Is 0x3f50_0000_0000_0000)
+    × (wordOf (bytes "3F50000000000000") ≡ Is 0x3f50_0000_0000_0000)
+    × (wordOf (bytes "ffffffffffffffff") ≡ Is 0xffff_ffff_ffff_ffff)
+    × (wordOf (bytes "3f5000000000000") ≡ Wrong)
+    × (wordOf (bytes "3g50000000000000") ≡ Wrong)
+unfolding wordOf numberFrom digitOf
+words = (refl, refl, refl, refl, refl)
+
+-- the largest limit, the number after it, zeros in front, a hexadecimal digit, and nothing
+decimals :
+    (decimalOf (bytes "18446744073709551615") ≡ Is 18446744073709551615)
+    × (decimalOf (bytes "18446744073709551616") ≡ Wrong)
+    × (decimalOf (bytes "0000000000000000000000000007") ≡ Is 7)
+    × (decimalOf (bytes "1a") ≡ Wrong)
+    × (decimalOf [] ≡ Wrong)
+unfolding decimalOf numberFrom digitOf
+decimals = (refl, refl, refl, refl, refl)
+
+-- each pattern of a NaN is the one NaN, and an infinity is none
+patterns : (ofBits binary64 0x7ff8_0000_0000_0000 ≡ nan) × (ofBits binary64 0xfff0_0000_0000_0001 ≡ nan) × (ofBits binary64 0xfff0_0000_0000_0000 ≡ inf true)
+unfolding ofBits ofFields
+patterns = (refl, refl, refl)
+
+fields : (fieldOf (bytes "  12  3 ") ≡ bytes "12") × (restOf (bytes "  12  3 ") ≡ bytes "  3 ") × (fieldOf (bytes "  ") ≡ [])
+unfolding fieldOf restOf
+fields = (refl, refl, refl)
+
+ends : (trimmed (bytes "1 2\r") ≡ bytes "1 2") × (trimmed (bytes "1\r2") ≡ bytes "1\r2") × (trimmed [] ≡ [])
+unfolding trimmed
+ends = (refl, refl, refl)
+
+written :
+    (decimalText 0 ≡ bytes "0")
+    × (decimalText 400 ≡ bytes "400")
+    × (decimalText 18446744073709551615 ≡ bytes "18446744073709551615")
+    × (hexText 0x3f50_0000_0000_0000 ≡ bytes "3f50000000000000")
+    × (hexText 0xabcdef ≡ bytes "0000000000abcdef")
+unfolding decimalText hexText
+written = (refl, refl, refl, refl, refl)
+
+-- ---- lines
+
+-- x - 1 by Brent between 0 and 2, and by Newton from 0, which has one start
+lines :
+    (askedOf (bytes "1 1 bff0000000000000 0000000000000000 4000000000000000 3f50000000000000 2")
+    ≡ call (minusOne ∷ []) (Brent nought two) small 2)
+    × (askedOf (bytes "4 1 bff0000000000000 0000000000000000 3f50000000000000 2") ≡ call (minusOne ∷ []) (NewtonRaphson nought) small 2)
+unfolding askedOf fieldOf restOf methodNumber withCount decimalOf numberFrom digitOf withDoubles startsOf wordOf withLimit methodOf
+lines = (refl, refl)
+
+-- a start that is missing, one too many, and a count that is no number
+no-lines :
+    (askedOf (bytes "1 1 bff0000000000000 0000000000000000 3f50000000000000 2") ≡ no-call reason.Number)
+    × (askedOf (bytes "4 1 bff0000000000000 0000000000000000 4000000000000000 3f50000000000000 2") ≡ no-call reason.Limit)
+    × (askedOf (bytes "4 -1 bff0000000000000") ≡ no-call reason.Count)
+    × (askedOf (bytes "6") ≡ no-call reason.Method)
+    × (askedOf [] ≡ no-call reason.Empty)
+unfolding askedOf fieldOf restOf methodNumber withCount decimalOf numberFrom digitOf withDoubles startsOf wordOf withLimit methodOf
+no-lines = (refl, refl, refl, refl, refl)
+
+-- ---- the input
+
+-- two lines and the start of a third, of which three bytes are kept
+input :
+    (repliesTo 3 fresh (bytes "6\n\n1 2 3") ≡ bytes "error method\nerror empty\n")
+    × (lineAfter 3 fresh (bytes "6\n\n1 2 3") ≡ record { text = bytes "1 2"; long = true })
+unfolding nextLine grown replyAt replyTo trimmed askedOf fieldOf restOf methodNumber
+input = (refl, refl)

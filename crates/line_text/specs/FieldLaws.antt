@@ -1,0 +1,90 @@
+-- A line read byte by byte.
+use Prim.Native.Nat.{ℕ, suc, _+_, _-_, _≤_, _<_}
+use native.Mathlib.Numerals.{add-one}
+use native.Mathlib.Omega.{arith}
+use mathlib.Core.List.{List, [], _∷_, _++_, append-assoc, append-nil}
+use mathlib.Core.Path.{_≡_, refl, sym, ap, _∙_}
+use lib.ListN.{length, take, drop, getD, length-drop, drop-of-length-le}
+use lib.Seq.{drop-cons, take-suc, getD-drop}
+use borrow.Author.Tests.{eq-eqb, ne-eqb}
+use Rattle.line_text.specs.Fields.{skipped, untilSpace, fromSpace, fieldOf, restOf, Skipped, Ended, Field}
+
+-- nothing is left from the end on
+none : (s : List ℕ) (i : ℕ) → length s ≤ i → drop i s ≡ []
+none s i h = drop-of-length-le s h
+
+module _ (s : List ℕ) (i : ℕ) (h : i < length s) where
+  one-off : drop i s ≡ getD s i 0 ∷ drop (i + 1) s
+  one-off = rw (add-one, drop-cons s i 0)
+
+-- ---- spaces in front
+
+module _ (s : List ℕ) (at i : ℕ) (k : skipped (drop i s) ≡ skipped (drop at s)) where
+  pub skip-on : i < length s → getD s i 0 ≡ 32 → skipped (drop (i + 1) s) ≡ skipped (drop at s)
+  skip-on h e = sym (rw (one-off s i h, eq-eqb (getD s i 0) 32 e)) ∙ k
+
+  pub skip-stop : i < length s → (getD s i 0 ≡ 32 → ⊥) → Skipped s at i
+  skip-stop h n = record { within = omega arith; is = sym (rw (one-off s i h, ne-eqb (getD s i 0) 32 n)) ∙ k }
+
+  pub skip-end : i ≤ length s → length s ≤ i → Skipped s at i
+  skip-end h l = record { within = h; is = sym (rw (none s i l)) ∙ k }
+
+-- ---- up to a space
+
+pub record Ending (s : List ℕ) (at i : ℕ) : Type 0 where
+  pub past : at ≤ i
+  pub within : i ≤ length s
+  pub is : take (i - at) (drop at s) ++ untilSpace (drop i s) ≡ untilSpace (drop at s)
+  pub leaves : fromSpace (drop i s) ≡ fromSpace (drop at s)
+
+pub end-starts : (s : List ℕ) (at : ℕ) → at ≤ length s → Ending s at at
+end-starts s at h = record { past = omega arith; within = h; is = rw nought; leaves = refl }
+  where
+    nought : at - at ≡ 0
+    nought = omega arith
+
+module _ (s : List ℕ) (at i : ℕ) (e : Ending s at i) where
+  pub end-on : i < length s → (getD s i 0 ≡ 32 → ⊥) → Ending s at (i + 1)
+  end-on h n = record { past = omega arith; within = omega arith; is = longer ∙ e .is; leaves = sym (rw (one-off s i h, ne-eqb (getD s i 0) 32 n)) ∙ e .leaves }
+    where
+      past-at : at ≤ i
+      past-at = e .past
+
+      counts : i + 1 - at ≡ suc (i - at)
+      counts = omega arith
+
+      here : at + (i - at) ≡ i
+      here = omega arith
+
+      inside : i - at < length (drop at s)
+      inside = rw length-drop (omega arith)
+
+      more : take (i + 1 - at) (drop at s) ≡ take (i - at) (drop at s) ++ (getD s i 0 ∷ [])
+      more = rw (counts, take-suc (drop at s) (i - at) 0 inside, getD-drop, here)
+
+      longer : take (i + 1 - at) (drop at s) ++ untilSpace (drop (i + 1) s) ≡ take (i - at) (drop at s) ++ untilSpace (drop i s)
+      longer = rw (more, append-assoc, one-off s i h, ne-eqb (getD s i 0) 32 n)
+
+  pub end-stop : i < length s → getD s i 0 ≡ 32 → Ended s at i
+  end-stop h n = record { past = e .past; within = e .within; is = kept ∙ e .is; leaves = left ∙ e .leaves }
+    where
+      kept : take (i - at) (drop at s) ≡ take (i - at) (drop at s) ++ untilSpace (drop i s)
+      kept = rw (one-off s i h, eq-eqb (getD s i 0) 32 n, append-nil)
+
+      left : drop i s ≡ fromSpace (drop i s)
+      left = rw (one-off s i h, eq-eqb (getD s i 0) 32 n)
+
+  pub end-end : length s ≤ i → Ended s at i
+  end-end l = record { past = e .past; within = e .within; is = kept ∙ e .is; leaves = left ∙ e .leaves }
+    where
+      kept : take (i - at) (drop at s) ≡ take (i - at) (drop at s) ++ untilSpace (drop i s)
+      kept = rw (none s i l, append-nil)
+
+      left : drop i s ≡ fromSpace (drop i s)
+      left = rw (none s i l)
+
+-- ---- the two together
+
+pub field-found : (s : List ℕ) (at from to : ℕ) → Skipped s at from → Ended s from to → Field s at (record { from = from; to = to })
+unfolding fieldOf restOf
+field-found s at from to a b = record { past = b .past; within = b .within; is = b .is ∙ ap untilSpace (a .is); leaves = b .leaves ∙ ap fromSpace (a .is) }

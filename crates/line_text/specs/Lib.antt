@@ -1,0 +1,13 @@
+pub mod Digits
+pub mod DigitLaws
+pub mod Fields
+pub mod FieldLaws
+pub mod Calls
+pub mod CallLaws
+pub mod ReadingLaws
+pub mod Texts
+pub mod TextLaws
+pub mod ReplyLaws
+pub mod Inputs
+pub mod InputLaws
+pub mod Examples

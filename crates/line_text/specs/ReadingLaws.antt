@@ -1,0 +1,152 @@
+-- A line read field by field.
+use Prim.Native.Nat.{ℕ, _+_, _-_, _≤_, _<_}
+use native.Mathlib.Omega.{arith}
+use mathlib.Core.Bool.{Bool, true, false, cond}
+use mathlib.Core.List.{List}
+use mathlib.Core.Path.{_≡_, refl, sym, ap, _∙_}
+use lib.Dec.{eqb}
+use lib.ListN.{length, take, drop, getD, length-drop}
+use lib.Seq.{take-take, getD-take, length-take-le}
+use lib.Ieee.{Float, nan}
+use borrow.Author.Tests.{eq-eqb, ne-eqb, lt-ltb, le-ltb}
+use Rattle.roots.specs.declared.Method.{Method}
+use Rattle.line_text.specs.Digits.{decimalOf}
+use Rattle.line_text.specs.Fields.{fieldOf, restOf, Field}
+use Rattle.line_text.specs.Calls.{allWords, past, FilledTo, Filled, methodNumber, startsOf, methodOf, Asked, no-call, limited, withLimit, doubles, withDoubles, counted, withCount, askedOf, Reads}
+use Rattle.line_text.specs.declared.fields.Span.{Span}
+use Rattle.line_text.specs.declared.digits.Number.{Number}
+use Rattle.line_text.specs.declared.digits.Number.the-variants.{Is, Wrong}
+use Rattle.line_text.specs.declared.call.Place.{Place}
+use Rattle.line_text.specs.declared.call.Place.the-variants as place
+use Rattle.line_text.specs.declared.call.Reason.{Reason}
+use Rattle.line_text.specs.declared.call.Reason.the-variants as reason
+use Rattle.line_text.specs.declared.call.Reading.{Reading}
+use Rattle.line_text.specs.declared.call.Reading.the-variants as reading
+
+-- ---- a field's length, and a field that was read
+
+module _ {s : List ℕ} {at : ℕ} {f : Span} (j : Field s at f) where
+  field-length : length (fieldOf (drop at s)) ≡ f .to - f .from
+  field-length = sym (ap length (j .is)) ∙ length-take-le (f .to - f .from) (drop (f .from) s) (rw length-drop (let p = j .past in let w = j .within in omega arith))
+
+  pub no-field : f .to ≤ f .from → eqb (length (fieldOf (drop at s))) 0 ≡ true
+  no-field h = rw field-length (eq-eqb (f .to - f .from) 0 (omega arith))
+
+  pub some-field : f .from < f .to → eqb (length (fieldOf (drop at s))) 0 ≡ false
+  some-field h = rw field-length (ne-eqb (f .to - f .from) 0 (λ e. omega arith))
+
+wrong : (asked : Asked) (a : List Float) (why : Reason) → asked ≡ no-call why → Reads asked a (reading.Wrong why)
+wrong asked a why e = record { within = omega arith; is = sym e }
+
+-- ---- the limit
+
+module _ (s : List ℕ) (at m n : ℕ) (a : List Float) {f : Span} (j : Field s at f) {d : Number} (e : d ≡ decimalOf (take (f .to - f .from) (drop (f .from) s))) where
+  the-limit : withLimit m n a (drop at s) ≡ limited m n a d (drop (f .to) s)
+  unfolding withLimit
+  the-limit = rw (j .leaves, e, j .is)
+
+  pub limit-wrong : d ≡ Wrong → Reads (withLimit m n a (drop at s)) a (reading.Wrong reason.Limit)
+  limit-wrong q = wrong (withLimit m n a (drop at s)) a reason.Limit (the-limit ∙ rw q)
+
+  module _ {l : ℕ} (q : d ≡ Is l) {g : Span} (k : Field s (f .to) g) where
+    pub limit-trailing : g .from < g .to → Reads (withLimit m n a (drop at s)) a (reading.Wrong reason.Trailing)
+    limit-trailing h = wrong (withLimit m n a (drop at s)) a reason.Trailing (the-limit ∙ rw (q, some-field k h))
+
+    pub limit-read : {method : Method} {k : ℕ} → g .to ≤ g .from → n + 3 ≤ length a → method ≡ methodOf m (getD a n nan) (getD a (n + 1) nan) → k ≡ startsOf m → Reads (withLimit m n a (drop at s)) a (reading.Call (record { method = method; count = n; eps = getD a (n + k) nan; limit = l }))
+    limit-read h b x y = record { within = omega arith; is = rw (x, y) (sym (the-limit ∙ rw (q, no-field k h))) }
+
+-- ---- the doubles
+
+some-starts : (m : ℕ) → 1 ≤ startsOf m
+unfolding startsOf
+some-starts m = go (eqb m 4)
+  where
+    go : (b : Bool) → 1 ≤ cond b 1 2
+    go true = omega arith
+    go false = omega arith
+
+module _ (m n : ℕ) (a : List Float) (k : ℕ) (t : List ℕ) where
+  -- only the first n + starts + 1 doubles count
+  first-ones : k ≡ doubles m n → withLimit m n a t ≡ withLimit m n (take k a) t
+  unfolding withLimit
+  first-ones e = go (decimalOf (fieldOf t))
+    where
+      coefficients : take n (take k a) ≡ take n a
+      coefficients = take-take n k a (omega arith)
+
+      at-start : getD (take k a) n nan ≡ getD a n nan
+      at-start = getD-take k a n nan (omega arith)
+
+      at-next : getD (take k a) (n + 1) nan ≡ getD a (n + 1) nan
+      at-next = getD-take k a (n + 1) nan (let h = some-starts m in omega arith)
+
+      at-eps : getD (take k a) (n + startsOf m) nan ≡ getD a (n + startsOf m) nan
+      at-eps = getD-take k a (n + startsOf m) nan (omega arith)
+
+      go : (d : Number) → limited m n a d (restOf t) ≡ limited m n (take k a) d (restOf t)
+      go (Is l) = rw (coefficients, at-start, at-next, at-eps)
+      go Wrong = refl
+
+pub filled-within : (s : List ℕ) (at k : ℕ) (a : List Float) {w : Place} {p : ℕ} → Filled s at k a w → w ≡ place.At p → p ≤ length s
+filled-within s at k a {w} {p} g q = filled .within
+  where
+    filled : FilledTo s at k a p
+    filled = rw q at g
+
+module _ (s : List ℕ) (at m n : ℕ) (a : List Float) {k : ℕ} (e : k ≡ startsOf m) {w : Place} (g : Filled s at (n + k + 1) a w) where
+  pub doubles-wrong : w ≡ place.Wrong → Reads (withDoubles m n (drop at s)) a (reading.Wrong reason.Number)
+  unfolding withDoubles
+  doubles-wrong q = wrong (withDoubles m n (drop at s)) a reason.Number (rw (← e, none))
+    where
+      none : allWords (n + k + 1) (drop at s) ≡ false
+      none = rw q at g
+
+  module _ {p : ℕ} (q : w ≡ place.At p) where
+    filled : FilledTo s at (n + k + 1) a p
+    filled = rw q at g
+
+    pub doubles-read : {r : Reading} → Reads (withLimit m n a (drop p s)) a r → Reads (withDoubles m n (drop at s)) a r
+    unfolding withDoubles
+    doubles-read {r} h = record { within = h .within; is = h .is ∙ same }
+      where
+        same : withLimit m n a (drop p s) ≡ withDoubles m n (drop at s)
+        same = first-ones m n a (n + k + 1) (drop p s) (rw e) ∙ rw (← e, filled .all, filled .are, filled .leaves)
+
+-- ---- the count
+
+module _ (s : List ℕ) (at m : ℕ) (a : List Float) {f : Span} (j : Field s at f) {d : Number} (e : d ≡ decimalOf (take (f .to - f .from) (drop (f .from) s))) where
+  the-count : withCount m (drop at s) ≡ counted m d (drop (f .to) s)
+  unfolding withCount
+  the-count = rw (j .leaves, e, j .is)
+
+  pub count-wrong : d ≡ Wrong → Reads (withCount m (drop at s)) a (reading.Wrong reason.Count)
+  count-wrong q = wrong (withCount m (drop at s)) a reason.Count (the-count ∙ rw q)
+
+  module _ {n : ℕ} (q : d ≡ Is n) where
+    pub count-large : 40 < n → Reads (withCount m (drop at s)) a (reading.Wrong reason.Count)
+    count-large h = wrong (withCount m (drop at s)) a reason.Count (the-count ∙ rw (q, lt-ltb 40 n h))
+
+    pub count-read : n ≤ 40 → {r : Reading} → Reads (withDoubles m n (drop (f .to) s)) a r → Reads (withCount m (drop at s)) a r
+    count-read h k = record { within = k .within; is = k .is ∙ sym (the-count ∙ rw (q, le-ltb 40 n h)) }
+
+-- ---- the method, at the start of the line
+
+module _ (s : List ℕ) (a : List Float) {f : Span} (j : Field s 0 f) where
+  pub read-empty : f .from ≡ f .to → Reads (askedOf s) a (reading.Wrong reason.Empty)
+  unfolding askedOf
+  read-empty h = wrong (askedOf s) a reason.Empty (rw (no-field j (omega arith)))
+
+  module _ (h : f .from ≡ f .to → ⊥) {m : ℕ} (e : m ≡ methodNumber (take (f .to - f .from) (drop (f .from) s))) where
+    some : eqb (length (fieldOf s)) 0 ≡ false
+    some = some-field j (let p = j .past in omega arith)
+
+    the-method : methodNumber (fieldOf s) ≡ m
+    the-method = sym (e ∙ ap methodNumber (j .is))
+
+    pub read-no-method : m ≡ 0 → Reads (askedOf s) a (reading.Wrong reason.Method)
+    unfolding askedOf
+    read-no-method q = wrong (askedOf s) a reason.Method (rw (some, the-method, q))
+
+    pub read-read : (m ≡ 0 → ⊥) → {r : Reading} → Reads (withCount m (drop (f .to) s)) a r → Reads (askedOf s) a r
+    unfolding askedOf
+    read-read q k = record { within = k .within; is = k .is ∙ sym (rw (some, the-method, ne-eqb m 0 q, j .leaves)) }

@@ -1,0 +1,169 @@
+// A line taken apart: METHOD COUNT A0 .. START [START] EPS LIMIT.
+ghost use mathlib.Core.Path.{_≡_};
+ghost use Prim.Native.Nat.{_+_, _≤_};
+ghost use lib.ListN.{length, drop};
+ghost use Rattle.line_text.specs.Calls.{Filled, methodNumber, methodOf, startsOf, Reads, withLimit, withDoubles, withCount, askedOf};
+use crate::digits;
+use crate::fields;
+use digits::Number;
+use roots::Method;
+
+// Why a line is not a call.
+pub enum Reason {
+    Empty,
+    Method,
+    Count,
+    Number,
+    Limit,
+    Trailing,
+}
+
+// A call, but for its coefficients: those are the first `count` doubles of an array beside it.
+pub struct Call {
+    pub method: Method,
+    pub count: usize,
+    pub eps: f64,
+    pub limit: u64,
+}
+
+pub enum Reading {
+    Call(Call),
+    Wrong(Reason),
+}
+
+// Where the doubles end, if each is one.
+pub enum Place {
+    At(usize),
+    Wrong,
+}
+
+// Reads k fields from `at` on as doubles, into a.
+pub fn read_doubles(s: &[u8], at: usize, k: usize, a: &mut [f64]) -> Place
+    requires { ⌜ (at ≤ length (now s)) × (k ≤ length (now a)) ⌝ }
+    ensures { λ r. ⌜ Filled (now (s .entry)) at k (now (a .exit)) r ⌝ }
+{
+    let mut p = at;
+    let mut i = 0;
+    while i < k {
+        let f = fields::next(s, p);
+        let from = f.from;
+        let to = f.to;
+        let Number::Is(n) = digits::word(&s[from..to]) else {
+            return Place::Wrong;
+        };
+        a[i] = doubles::from_pattern(n);
+        p = to;
+        i += 1;
+    }
+    Place::At(p)
+}
+
+// The method's number, or 0 where the field is none.
+fn method_number(t: &[u8]) -> u8
+    ensures { λ r. ⌜ r ≡ methodNumber (now (t .entry)) ⌝ }
+{
+    if t.len() == 1 {
+        let b = t[0];
+        match b {
+            b'1'..=b'5' => b - b'0',
+            _ => 0,
+        }
+    } else {
+        0
+    }
+}
+
+// How many starts the method has.
+fn starts(m: u8) -> usize
+    ensures { λ r. ⌜ (r ≡ startsOf m) × (r ≤ 2) ⌝ }
+{
+    if m == 4 { 1 } else { 2 }
+}
+
+// The method by its number, with its starts.
+fn method_of(m: u8, p: f64, q: f64) -> Method
+    ensures { λ r. ⌜ r ≡ methodOf m p q ⌝ }
+{
+    match m {
+        1 => Method::Brent { from: p, to: q },
+        2 => Method::RegulaFalsi { from: p, to: q },
+        3 => Method::Secant {
+            first: p,
+            second: q,
+        },
+        4 => Method::NewtonRaphson { start: p },
+        _ => Method::Polynom { from: p, to: q },
+    }
+}
+
+// The limit at `at`, behind which nothing may follow; a holds the doubles.
+fn with_limit(s: &[u8], at: usize, m: u8, count: usize, a: &[f64]) -> Reading
+    requires { ⌜ (at ≤ length (now s)) × (count + 3 ≤ length (now a)) ⌝ }
+    ensures { λ r. ⌜ Reads (withLimit m count (now (a .entry)) (drop at (now (s .entry)))) (now (a .entry)) r ⌝ }
+{
+    let f = fields::next(s, at);
+    let from = f.from;
+    let to = f.to;
+    let Number::Is(limit) = digits::decimal(&s[from..to]) else {
+        return Reading::Wrong(Reason::Limit);
+    };
+    let g = fields::next(s, to);
+    if g.from < g.to {
+        return Reading::Wrong(Reason::Trailing);
+    }
+    let method = method_of(m, a[count], a[count + 1]);
+    let eps = a[count + starts(m)];
+    Reading::Call(Call {
+        method,
+        count,
+        eps,
+        limit,
+    })
+}
+
+// The doubles at `at`: the coefficients, the starts and eps.
+fn with_doubles(s: &[u8], at: usize, m: u8, count: usize, a: &mut [f64]) -> Reading
+    requires { ⌜ (at ≤ length (now s)) × (count ≤ 40) × (43 ≤ length (now a)) ⌝ }
+    ensures { λ r. ⌜ Reads (withDoubles m count (drop at (now (s .entry)))) (now (a .exit)) r ⌝ }
+{
+    let k = count + starts(m) + 1;
+    match read_doubles(s, at, k, a) {
+        Place::At(p) => with_limit(s, p, m, count, a),
+        Place::Wrong => Reading::Wrong(Reason::Number),
+    }
+}
+
+// The count at `at`.
+fn with_count(s: &[u8], at: usize, m: u8, a: &mut [f64]) -> Reading
+    requires { ⌜ (at ≤ length (now s)) × (43 ≤ length (now a)) ⌝ }
+    ensures { λ r. ⌜ Reads (withCount m (drop at (now (s .entry)))) (now (a .exit)) r ⌝ }
+{
+    let f = fields::next(s, at);
+    let from = f.from;
+    let to = f.to;
+    let Number::Is(count) = digits::decimal(&s[from..to]) else {
+        return Reading::Wrong(Reason::Count);
+    };
+    if 40 < count {
+        return Reading::Wrong(Reason::Count);
+    }
+    with_doubles(s, to, m, count as usize, a)
+}
+
+// What the line asks for, with the coefficients in a, which holds up to 40 of them, two starts and eps.
+pub fn read(s: &[u8], a: &mut [f64]) -> Reading
+    requires { ⌜ 43 ≤ length (now a) ⌝ }
+    ensures { λ r. ⌜ Reads (askedOf (now (s .entry))) (now (a .exit)) r ⌝ }
+{
+    let f = fields::next(s, 0);
+    let from = f.from;
+    let to = f.to;
+    if from == to {
+        return Reading::Wrong(Reason::Empty);
+    }
+    let m = method_number(&s[from..to]);
+    if m == 0 {
+        return Reading::Wrong(Reason::Method);
+    }
+    with_count(s, to, m, a)
+}
