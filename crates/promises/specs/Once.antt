@@ -13,7 +13,7 @@ use Rattle.numerical.specs.Tallies.{fresh, valuedOf, slopedOf, steppedOf, ruled
 use Rattle.numerical.specs.declared.Interval.{Interval}
 use Rattle.numerical.specs.declared.Progress.{Progress}
 use Rattle.numerical.specs.declared.Sample.{Sample}
-use Rattle.simple_convergency.specs.Stop.{checkedOf, foundAt, convergedAt, turnsOf}
+use Rattle.simple_convergency.specs.Stop.{plainLimit, checkedOf, foundAt, convergedAt, turnsOf}
 use Rattle.simple_convergency.specs.declared.StopRule.{StopRule}
 use Rattle.polynom.specs.Polynom.{value, valueAndDerivative, kept, evaluated, evaluatedBoth}
 use Rattle.searching.specs.Rules.{placedIn, alikeBy, inOrder}
@@ -22,7 +22,7 @@ use Rattle.regula_falsi.specs.RegulaFalsi.{regulaFalsi}
 use Rattle.secant.specs.Secant.{secant}
 use Rattle.newton_raphson.specs.NewtonRaphson.{newtonRaphson}
 use Rattle.polynom_search.specs.PolynomSearch.{polynomSearch}
-use Rattle.roots.specs.Calls.{answer, plainLimit}
+use Rattle.roots.specs.Calls.{answer}
 use Rattle.roots.specs.declared.Method.{Method}
 use Rattle.roots.specs.declared.Method.the-variants.{Brent, RegulaFalsi, Secant, NewtonRaphson, Polynom}
 use Rattle.roots_c.specs.Flat.{flatKind, flatNumbers, flatTallies}

@@ -2,22 +2,24 @@
 use Prim.Native.Nat.{ℕ, _+_, _≤_, _<_}
 use native.Mathlib.Numerals.{add-one}
 use native.Mathlib.Omega.{arith}
-use mathlib.Core.Bool.{Bool, true, false, cond, true≢false}
+use mathlib.Core.Bool.{Bool, true, false, cond, not, true≢false}
 use mathlib.Core.List.{List, [], _∷_}
 use mathlib.Core.Path.{_≡_, refl, ap, sym, _∙_}
 use lib.ListN.{length, drop, getD}
 use lib.Seq.{drop-cons, drop-length}
 use lib.Ieee.{Float, nan}
 use lib.Ieee.Scale.{finite}
+use borrow.Author.Tests.{not-false}
 use Rattle.numerical.specs.Answers.{refusedAtOnce}
 use Rattle.numerical.specs.declared.Outcome.{Outcome}
-use Rattle.simple_convergency.specs.Stop.{checkedOf}
-use Rattle.simple_convergency.specs.StopLaws.{passed}
+use Rattle.simple_convergency.specs.Stop.{greatestLimit, badEps, checkedOf}
+use Rattle.simple_convergency.specs.StopLaws.{Passed, passed}
 use Rattle.simple_convergency.specs.declared.StopRule.{StopRule}
 use Rattle.simple_convergency.specs.declared.Checked.{Checked}
 use Rattle.simple_convergency.specs.declared.Checked.the-variants.{Rule, Refused}
 use Rattle.roots.specs.Calls.{allFinite, startsOf, foundBy, foundUnder}
 use Rattle.roots.specs.declared.Method.{Method}
+use Rattle.roots.specs.declared.Method.the-variants.{RegulaFalsi}
 
 -- ---- the coefficients from i on
 
@@ -65,6 +67,27 @@ one-finite x e = e ∙ go (finite x)
 pub by-method : {r : Outcome} (a : List Float) (stop : StopRule) (m : Method) {n : Method} → m ≡ n → r ≡ foundBy a stop n → r ≡ foundBy a stop m
 by-method a stop m e k = rw e k
 
+-- ---- by what the stop rule's check gave
+
+module _ (a : List Float) (m : Method) (eps : Float) (limit : ℕ) {c : Checked} {r : Outcome} (e : c ≡ checkedOf eps limit) where
+  pub by-rule : {stop : StopRule} → c ≡ Rule stop → r ≡ foundBy a stop m → r ≡ foundUnder a m (checkedOf eps limit)
+  by-rule k g = g ∙ ap (foundUnder a m) (sym k ∙ e)
+
+  pub by-refusal : {n : ℕ} → c ≡ Refused n → r ≡ refusedAtOnce n → r ≡ foundUnder a m (checkedOf eps limit)
+  by-refusal k g = g ∙ ap (foundUnder a m) (sym k ∙ e)
+
+-- ---- what a rule that was checked keeps to
+
+module _ (eps : Float) (limit : ℕ) {c : Checked} {stop : StopRule} (e : c ≡ checkedOf eps limit) (k : c ≡ Rule stop) where
+  rule : Passed eps limit stop
+  rule = passed eps limit stop (sym e ∙ k)
+
+  pub limit-kept : stop .limit ≤ greatestLimit
+  limit-kept = rw (rule .same-limit) (rule .in-range)
+
+  pub eps-kept : badEps (stop .eps) ≡ false
+  eps-kept = rw (rule .same-eps) (rule .good-eps)
+
 -- ---- where all are finite, each is
 
 pub first-of : (x : Float) (rest : List Float) → allFinite (x ∷ rest) ≡ true → (finite x ≡ true) × (allFinite rest ≡ true)
@@ -77,3 +100,18 @@ first-of x rest e = go (finite x) refl e
 
 pub both-of : (x y : Float) → allFinite (x ∷ y ∷ []) ≡ true → (finite x ≡ true) × (finite y ≡ true)
 both-of x y e = let f = first-of x (y ∷ []) e in (f .0, first-of y [] (f .1) .0)
+
+-- ---- both starts of an Illinois search are finite
+
+pub starts-kept : {f b : Bool} → f ≡ b → not f ≡ false → b ≡ true
+starts-kept {f} e t = sym e ∙ not-false f t
+
+module _ (m : Method) {x y : Float} (e : m ≡ RegulaFalsi x y) (k : allFinite (startsOf m) ≡ true) where
+  starts : (finite x ≡ true) × (finite y ≡ true)
+  starts = both-of x y (rw e at k)
+
+  pub first-finite : finite x ≡ true
+  first-finite = starts .0
+
+  pub second-finite : finite y ≡ true
+  second-finite = starts .1

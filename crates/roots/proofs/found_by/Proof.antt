@@ -1,5 +1,4 @@
-use Rattle.roots.specs.CallLaws.{by-method}
-use Rattle.roots.specs.CoefficientLaws.{first-finite, second-finite}
+use Rattle.roots.specs.CallLaws.{by-method, first-finite, second-finite}
 use borrow.Author.Needs.{needs}
 use Rattle.roots.proofs.found_by.Statement.{statement}
 use Rattle.roots.proofs.found_by.Tie as tie
