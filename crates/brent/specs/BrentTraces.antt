@@ -1,22 +1,21 @@
 -- Every Brent history has its events in order, a pair for the opening and one for each step, and c is the earlier b.
-use mathlib.Core.Bool.{Bool, true, false}
+use mathlib.Core.Bool.{Bool}
 use mathlib.Core.List.{List, [], _∷_}
 use mathlib.Core.Logic.{inl, inr}
-use mathlib.Core.Path.{_≡_, refl, subst, sym}
+use mathlib.Core.Path.{_≡_, refl}
 use lib.Ieee.{Float}
 use Rattle.doubles.specs.Doubles.{oppositeSign}
-use Rattle.numerical.specs.declared.Interval.{Interval}
 use Rattle.numerical.specs.declared.Sample.{Sample}
 use Rattle.polynom.specs.declared.Evaluated.the-variants.{At}
 use Rattle.simple_convergency.specs.Stop.{turnsOf}
 use Rattle.simple_convergency.specs.declared.StopRule.{StopRule}
 use Rattle.searching.specs.Programs.{found, converged, oracle, Event, asked, Prog, Turned, narrowsTo}
 use Rattle.searching.specs.Brackets.{pairsIn}
-use Rattle.searching.specs.Events.{evaluationsIn, candidatesIn, Sampled, OfStarts, EndOf, PointsOf, PulledNow, Traced, Opening, Tracing}
+use Rattle.searching.specs.Events.{evaluationsIn, candidatesIn, Sampled, OfStarts, PointsOf, PulledNow, Traced, Opening, Tracing}
 use Rattle.searching.specs.EventLaws.{opening-none, opening-value, tracing-newest, tracing-value, tracing-stops, tracing-candidate, tracing-ruled, tracing-narrows, traced-end, traced-bracketed}
 use Rattle.searching.specs.Keeps.{Ends, After, ends-done, ends-test, ends-searches}
-use Rattle.brent.specs.Brent.{arrange, pairOf, startOf, opened, secondAt, firstAt, opening, guessOf, usedOf, nextOf, keptA, keptB, arrived, landed, pulledIn, stepWith, stepFrom, turnFrom, brentProgram}
-use Rattle.brent.specs.BrentEvents.{KeptAgain, Follows, IsC, Gives}
+use Rattle.brent.specs.Brent.{arrange, pairOf, startOf, opened, secondAt, firstAt, opening, nextOf, keptA, keptB, arrived, landed, pulledIn, stepWith, stepFrom, turnFrom, brentProgram}
+use Rattle.brent.specs.BrentEvents.{Follows, IsC, Gives}
 use Rattle.brent.specs.BrentKeeps.{either-way}
 use Rattle.brent.specs.declared.Arranged.{Arranged}
 use Rattle.brent.specs.declared.Brent.{Brent}

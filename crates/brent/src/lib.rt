@@ -11,9 +11,10 @@ ghost use mathlib.Core.List.{List};
 ghost use Prim.Native.Nat.{_≤_};
 ghost use lib.Ieee.{Float};
 ghost use Rattle.numerical.specs.Tallies.{Room};
+ghost use Rattle.simple_convergency.specs.Stop.{greatestLimit};
 ghost use Rattle.simple_convergency.specs.declared.StopRule.{StopRule};
 ghost use Rattle.searching.specs.Programs.{ended, next, valueAt, oracle, play, tallied};
-ghost use Rattle.searching.specs.LoopLaws.{runOf};
+ghost use Rattle.searching.specs.LoopLaws.{Ample, runOf};
 ghost use Rattle.brent.specs.Brent.{Evaluations, arrange, opened, secondAt, firstAt, opening, inverseQuadratic, chord, threeValues, guessOf, beyondQuarter, tooSlow, stalls, bisects, usedOf, nextOf, keptA, keptB, oppositeBy, arrived, landed, pulledIn, stepWith, stepFrom, turnFrom, brent, viewed};
 
 // Two samples, the larger in size first.
@@ -378,7 +379,7 @@ fn take_turn(a: &[f64], stop: StopRule, s: Brent, p: Progress) -> Turn
 
 // From a state on: at most so many rounds; the last step's sample is not tested.
 fn searched(a: &[f64], stop: StopRule, begun: Brent, progress: Progress, most: u64) -> Outcome
-    requires { ⌜ (most ≤ 400) × Room 2000 progress × Evaluations (now a) begun ⌝ }
+    requires { ⌜ (most ≤ greatestLimit) × Ample progress × Evaluations (now a) begun ⌝ }
     ensures { λ r. ⌜ r ≡ runOf (now (a .entry)) (turnFrom stop) most begun progress ⌝ }
 {
     let mut s = begun;
@@ -405,7 +406,7 @@ fn searched(a: &[f64], stop: StopRule, begun: Brent, progress: Progress, most: u
 
 // A root by Brent's method between two points: the opening, and the rounds from there.
 pub fn find_root(a: &[f64], stop: StopRule, from: f64, to: f64) -> Outcome
-    requires { ⌜ stop .limit ≤ 400 ⌝ }
+    requires { ⌜ stop .limit ≤ greatestLimit ⌝ }
     ensures { λ r. ⌜ r ≡ brent (now (a .entry)) stop from to ⌝ }
 {
     let turn = opening(a, from, to, Progress::fresh());

@@ -2,9 +2,8 @@
 use mathlib.Core.Path.{_≡_, refl, sym, _∙_, subst}
 use mathlib.Core.Bool.{Bool, true, false, cond, _&&_, _||_, true≢false, false≢true, and-comm, and-false, or-true}
 use lib.Dec.{T}
-use lib.Ieee.{Float, nan, inf, fin, ofBits, lt, neg}
+use lib.Ieee.{Float, lt, neg}
 use lib.Ieee.Bits.{is-true}
-use lib.Ieee.Scale.{finite}
 use Rattle.doubles.specs.Doubles.{nought, absolute, above, below, sameSign, oppositeSign}
 use Rattle.doubles.specs.Compare.{Num, of-true, le-nums, le-no-lt, no-lt-le, lt→le, lt-le-trans}
 
@@ -79,15 +78,3 @@ not-found y eps n p = go (below y) (above y) (λ h. is-true (above y) (lt-le-tra
     go : (b c : Bool) → (lt y eps ≡ false → c ≡ true) → lt (cond b (neg y) y) eps ≡ false → (c || b) ≡ true
     go true c k h = or-true c
     go false c k h = rw (k h)
-
--- What is smaller in size than some number is finite: an infinity is smaller than none.
-pub small-finite : (y bound : Float) → lt (absolute y) bound ≡ true → finite y ≡ true
-unfolding absolute lt neg ofBits
-small-finite nan bound h = absurd (false≢true h)
-small-finite (fin s m e) bound h = refl
-small-finite (inf true) nan h = absurd (false≢true h)
-small-finite (inf true) (inf t) h = absurd (false≢true h)
-small-finite (inf true) (fin t n d) h = absurd (false≢true h)
-small-finite (inf false) nan h = absurd (false≢true h)
-small-finite (inf false) (inf t) h = absurd (false≢true h)
-small-finite (inf false) (fin t n d) h = absurd (false≢true h)

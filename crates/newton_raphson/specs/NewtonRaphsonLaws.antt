@@ -11,6 +11,7 @@ use Rattle.numerical.specs.Tallies.{fresh}
 use Rattle.numerical.specs.declared.Answer.{Answer}
 use Rattle.numerical.specs.declared.Outcome.{Outcome}
 use Rattle.numerical.specs.declared.Progress.{Progress}
+use Rattle.simple_convergency.specs.Stop.{greatestLimit}
 use Rattle.simple_convergency.specs.declared.StopRule.{StopRule}
 use Rattle.polynom.specs.declared.ValueAndDerivative.{ValueAndDerivative}
 use Rattle.searching.specs.Programs.{Turned, ended, next, oracle, play, tallied}
@@ -74,7 +75,7 @@ left-most stop (next s) = either (s .nudged)
     either true = omega arith
     either false = omega arith
 
-pub left-few : (stop : StopRule) {most : ℕ} (r : Turned Spot) → stop .limit ≤ 400 → most ≡ turnsLeft stop r → most ≤ 400
+pub left-few : (stop : StopRule) {most : ℕ} (r : Turned Spot) → stop .limit ≤ greatestLimit → most ≡ turnsLeft stop r → most ≤ greatestLimit
 left-few stop r h e = omega (arith, left-most stop r)
 
 module _ (a : List Float) (stop : StopRule) (start : Float) where

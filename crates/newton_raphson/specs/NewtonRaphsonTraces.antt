@@ -1,14 +1,14 @@
 -- Every Newton history has its events in order.
 use mathlib.Core.List.{List, []}
 use mathlib.Core.Logic.{inl, inr}
-use mathlib.Core.Path.{_≡_, refl}
+use mathlib.Core.Path.{refl}
 use lib.Ieee.{Float}
 use Rattle.polynom.specs.declared.ValueAndDerivative.{ValueAndDerivative}
 use Rattle.simple_convergency.specs.declared.StopRule.{StopRule}
 use Rattle.searching.specs.Programs.{oracle, Event, Prog, Turned}
 use Rattle.searching.specs.Events.{evaluationsIn, candidatesIn, Candidate, SampledBoth, Each, Ordered}
 use Rattle.searching.specs.Keeps.{Ends, After, ends-done, ends-test, ends-stops, ends-both, ends-offered, ends-steps, ends-searches}
-use Rattle.newton_raphson.specs.NewtonRaphson.{newtonPoint, landed, onward, laterAt, turnFrom, nudgedTo, nudge, firstAt, opening, turnsLeft, newtonProgram}
+use Rattle.newton_raphson.specs.NewtonRaphson.{landed, onward, laterAt, turnFrom, nudgedTo, nudge, firstAt, opening, turnsLeft, newtonProgram}
 use Rattle.newton_raphson.specs.NewtonRaphsonEvents.{Follows, Gives}
 use Rattle.newton_raphson.specs.declared.Spot.{Spot}
 

@@ -12,8 +12,9 @@ ghost use Prim.Native.Nat.{_≤_};
 ghost use lib.Ieee.{Float};
 ghost use Rattle.numerical.specs.Tallies.{Room};
 ghost use Rattle.numerical.specs.declared.Answer.the-variants.{ByValue};
+ghost use Rattle.simple_convergency.specs.Stop.{greatestLimit};
 ghost use Rattle.searching.specs.Programs.{ended, next, oracle, play, tallied};
-ghost use Rattle.searching.specs.LoopLaws.{runOf};
+ghost use Rattle.searching.specs.LoopLaws.{Ample, runOf};
 ghost use Rattle.newton_raphson.specs.NewtonRaphson.{newtonPoint, landed, onward, laterAt, turnFrom, nudge, firstAt, opening, turnsLeft, newtonRaphson, viewed};
 
 // Where the search stands, and whether the step that led there was the nudge: first, where an answer has its kind, so that x lies where a root does.
@@ -198,7 +199,7 @@ fn passes_left(stop: StopRule, s: Spot) -> u64
 
 // From a spot on: a pass at a time, until an end or the limit.
 fn searched(a: &[f64], stop: StopRule, begun: Spot, progress: Progress, most: u64) -> Outcome
-    requires { ⌜ (most ≤ 400) × Room 2000 progress ⌝ }
+    requires { ⌜ (most ≤ greatestLimit) × Ample progress ⌝ }
     ensures { λ r. ⌜ r ≡ runOf (now (a .entry)) (turnFrom stop) most begun progress ⌝ }
 {
     let mut s = begun;
@@ -225,7 +226,7 @@ fn searched(a: &[f64], stop: StopRule, begun: Spot, progress: Progress, most: u6
 
 // A root by Newton's method from one point: the first pass, and then those that are left until an end or the limit.
 pub fn find_root(a: &[f64], stop: StopRule, start: f64) -> Outcome
-    requires { ⌜ stop .limit ≤ 400 ⌝ }
+    requires { ⌜ stop .limit ≤ greatestLimit ⌝ }
     ensures { λ r. ⌜ r ≡ newtonRaphson (now (a .entry)) stop start ⌝ }
 {
     let turn = opened(a, stop, start, Progress::fresh());

@@ -1,7 +1,6 @@
 -- Each public function of `polynom`: its contract allows one result.
 use Rattle.polynom.proofs.value.Reads as value-reads
 use Rattle.polynom.proofs.value_and_derivative.Reads as value-and-derivative-reads
-use Rattle.polynom.proofs.kept.Reads as kept-reads
 use Rattle.polynom.proofs.evaluate.Reads as evaluate-reads
 use Rattle.polynom.proofs.evaluate_both.Reads as evaluate-both-reads
 use Rattle.once.specs.One.{One, fixed}
@@ -11,9 +10,6 @@ value-once = fixed _ _
 
 pub value-and-derivative-once : One value-and-derivative-reads.Learnt
 value-and-derivative-once = fixed _ _
-
-pub kept-once : One kept-reads.Learnt
-kept-once = fixed _ _
 
 pub evaluate-once : One evaluate-reads.Learnt
 evaluate-once = fixed _ _

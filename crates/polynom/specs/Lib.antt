@@ -1,5 +1,4 @@
--- What the contracts of `polynom` cite, that the value is the same with and without the derivative, and that a finite value has finite coefficients.
+-- What the contracts of `polynom` cite, and that the value is the same with and without the derivative.
 pub mod Polynom
 pub mod Terms
-pub mod FiniteTerms
 pub mod Examples

@@ -129,7 +129,7 @@ pub fn value_and_derivative(a: &[f64], x: f64) -> ValueAndDerivative
 }
 
 // The sample of a point and its value, if that is finite.
-pub fn kept(x: f64, y: f64) -> Evaluated
+fn kept(x: f64, y: f64) -> Evaluated
     ensures { λ r. ⌜ r ≡ kept x y ⌝ }
 {
     if doubles::is_finite_by_size(y) {

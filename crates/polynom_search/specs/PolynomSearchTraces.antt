@@ -16,7 +16,7 @@ use Rattle.searching.specs.Brackets.{pairsIn}
 use Rattle.searching.specs.Events.{evaluationsIn, candidatesIn, SampledBoth, lowerOf, upperOf, PointsOf, PulledNow, Traced, Opening, Tracing}
 use Rattle.searching.specs.EventLaws.{opening-none, opening-value, tracing-newest, tracing-value, tracing-both, tracing-stops, tracing-candidate, tracing-ruled, tracing-narrows, traced-end, traced-bracketed}
 use Rattle.searching.specs.Keeps.{Ends, After, ends-done, ends-test, ends-searches}
-use Rattle.polynom_search.specs.PolynomSearch.{secondAt, firstAt, ordered, opening, pairOf, replacedOf, chosen, closer, newtonPoint, usable, atMiddle, stepAt, widthAt, pulledIn, atMiddleOf, turnFrom, polynomProgram}
+use Rattle.polynom_search.specs.PolynomSearch.{secondAt, firstAt, ordered, opening, pairOf, chosen, closer, newtonPoint, usable, atMiddle, stepAt, widthAt, pulledIn, atMiddleOf, turnFrom, polynomProgram}
 use Rattle.polynom_search.specs.PolynomSearchEvents.{Follows, Gives}
 
 module _ (a : List Float) (stop : StopRule) (from to : Float) where

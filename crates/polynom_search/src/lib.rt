@@ -15,9 +15,10 @@ ghost use Prim.Native.Nat.{_≤_};
 ghost use lib.Ieee.{Float};
 ghost use Rattle.numerical.specs.Tallies.{Room};
 ghost use Rattle.numerical.specs.declared.Answer.the-variants.{ByValue};
+ghost use Rattle.simple_convergency.specs.Stop.{greatestLimit};
 ghost use Rattle.simple_convergency.specs.declared.StopRule.{StopRule};
 ghost use Rattle.searching.specs.Programs.{ended, next, oracle, play, tallied};
-ghost use Rattle.searching.specs.LoopLaws.{runOf};
+ghost use Rattle.searching.specs.LoopLaws.{Ample, runOf};
 ghost use Rattle.polynom_search.specs.PolynomSearch.{secondAt, firstAt, ordered, opening, chosen, closer, newtonPoint, inPair, atMiddle, stepAt, widthAt, middleIn, atMiddleOf, turnFrom, polynomSearch, viewed};
 
 // Where a turn leads: to the search's end, or to the next pair.
@@ -258,7 +259,7 @@ fn take_turn(a: &[f64], stop: StopRule, i: Interval, progress: Progress) -> Turn
 
 // From a pair on: a round at a time, until an end or the limit.
 fn searched(a: &[f64], stop: StopRule, begun: Interval, progress: Progress, most: u64) -> Outcome
-    requires { ⌜ (most ≤ 400) × Room 2000 progress ⌝ }
+    requires { ⌜ (most ≤ greatestLimit) × Ample progress ⌝ }
     ensures { λ r. ⌜ r ≡ runOf (now (a .entry)) (turnFrom stop) most begun progress ⌝ }
 {
     let mut i = begun;
@@ -285,7 +286,7 @@ fn searched(a: &[f64], stop: StopRule, begun: Interval, progress: Progress, most
 
 // A root by the polynomial search from two starts: the opening, and the rounds from there.
 pub fn find_root(a: &[f64], stop: StopRule, from: f64, to: f64) -> Outcome
-    requires { ⌜ stop .limit ≤ 400 ⌝ }
+    requires { ⌜ stop .limit ≤ greatestLimit ⌝ }
     ensures { λ r. ⌜ r ≡ polynomSearch (now (a .entry)) stop from to ⌝ }
 {
     let turn = opened(a, from, to, Progress::fresh());

@@ -10,7 +10,7 @@ use Rattle.numerical.specs.Answers.{kindOf, numbersOf}
 use Rattle.numerical.specs.Tallies.{markAfter}
 use Rattle.numerical.specs.Middle.{atLeast, atMost, crosses, middleOf}
 use Rattle.numerical.specs.declared.Outcome.{Outcome}
-use Rattle.simple_convergency.specs.Stop.{badEps, checkedOf, foundAt, convergedAt}
+use Rattle.simple_convergency.specs.Stop.{plainLimit, badEps, checkedOf, foundAt, convergedAt}
 use Rattle.polynom.specs.Polynom.{sums, value, sumsBoth, valueAndDerivative, evaluated, evaluatedBoth}
 use Rattle.searching.specs.Programs.{rising, bind, test, stops, sampled, sampledBoth, valueAt, bothAt, offered, pulledInto, productDeparts, bracketed, stepsTo, narrowsTo, run, searches, play, answerOf}
 use Rattle.brent.specs.Brent as br
@@ -18,7 +18,7 @@ use Rattle.regula_falsi.specs.RegulaFalsi as rf
 use Rattle.secant.specs.Secant as sec
 use Rattle.newton_raphson.specs.NewtonRaphson as nr
 use Rattle.polynom_search.specs.PolynomSearch as ps
-use Rattle.roots.specs.Calls.{badCount, allFinite, answer, plainLimit}
+use Rattle.roots.specs.Calls.{badCount, allFinite, answer}
 use Rattle.roots.specs.declared.Method.{Method}
 use Rattle.roots.specs.declared.Method.the-variants.{Brent, RegulaFalsi, Secant, NewtonRaphson, Polynom}
 

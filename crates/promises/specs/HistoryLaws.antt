@@ -4,21 +4,19 @@ use native.Mathlib.Omega.{arith}
 use mathlib.Core.Bool.{Bool, true, false}
 use mathlib.Core.List.{List, [], _∷_}
 use mathlib.Core.Logic.{_⊎_, inl, inr}
-use mathlib.Core.Path.{_≡_, refl, ap, sym, _∙_, subst}
+use mathlib.Core.Path.{_≡_, refl, subst}
 use lib.ListN.{length}
-use lib.Ieee.{Float, binary64, lt, sub}
+use lib.Ieee.{Float, lt}
 use Rattle.doubles.specs.Doubles.{absolute, sameSign}
 use Rattle.numerical.specs.declared.Answer.{Answer}
 use Rattle.numerical.specs.declared.Answer.the-variants.{ByWidth, Refused}
-use Rattle.numerical.specs.declared.Sample.{Sample}
 use Rattle.simple_convergency.specs.Stop.{foundAt}
 use Rattle.simple_convergency.specs.declared.StopRule.{StopRule}
 use Rattle.polynom.specs.Polynom.{value}
-use Rattle.polynom.specs.declared.ValueAndDerivative.{ValueAndDerivative}
 use Rattle.searching.specs.Brackets.{pairsIn}
 use Rattle.searching.specs.Events.{evaluationsIn, signsMissed, Rules, Each, Width, BeforePairs, Ordered, Traced}
 use Rattle.searching.specs.EventLaws.{mark-known, values-are}
-use Rattle.searching.specs.Histories.{history, valuesIn, stepsIn, derivativesIn, markIn}
+use Rattle.searching.specs.Histories.{history, stepsIn, markIn}
 use Rattle.searching.specs.Keeps.{Ends}
 use Rattle.searching.specs.ProgramLaws.{counted}
 use Rattle.searching.specs.Programs.{flat, tested, noted, Event, oracle, answerOf}
@@ -32,7 +30,7 @@ use Rattle.roots.specs.Calls.{startsOf, answer}
 use Rattle.roots.specs.declared.Method.{Method}
 use Rattle.roots.specs.declared.Method.the-variants.{Brent, RegulaFalsi, Secant, NewtonRaphson, Polynom}
 use Rattle.promises.specs.EarlyLaws.{atOnce}
-use Rattle.promises.specs.Backing.{Passed, passed, at-answer, counts-of, reason-of, six-told, plain-secant, plain-newton, two-marks}
+use Rattle.promises.specs.Backing.{passed, at-answer, counts-of, reason-of, six-told, plain-secant, plain-newton, two-marks}
 use Rattle.promises.specs.Searches.{ruleOf, programOf, historyOf, Held, followsOf, givesOf, Flat, Marks, Bracketed}
 
 -- ---- a method at a time

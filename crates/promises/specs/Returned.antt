@@ -1,8 +1,7 @@
 -- What the code returns: whatever the contracts of `search` and of `roots_search` allow keeps demands 1 and 3.
 -- An argument is what the language gives it to be (`GoodsP`): of an f64, a value of the format.
-use Prim.Native.Nat.{ℕ, zero, suc, _+_, _≤_, _<_}
+use Prim.Native.Nat.{ℕ, zero, suc, _≤_, _<_}
 use native.Mathlib.Omega.{arith}
-use mathlib.Core.Bool.{true, false, cond}
 use mathlib.Core.List.{List, [], _∷_}
 use mathlib.Core.Logic.{_⊎_, inl, inr}
 use mathlib.Core.Path.{_≡_, refl, ap, sym, _∙_, subst}

@@ -13,7 +13,7 @@ use Rattle.doubles.specs.Sizes.{atLeast, product-tells}
 use Rattle.numerical.specs.Tallies.{markAfter}
 use Rattle.numerical.specs.declared.Answer.{Answer}
 use Rattle.numerical.specs.declared.Sample.{Sample}
-use Rattle.simple_convergency.specs.Stop.{badEps, turnsOf}
+use Rattle.simple_convergency.specs.Stop.{leastPower, greatestLimit, badEps, turnsOf}
 use Rattle.simple_convergency.specs.StopLaws.{not-found-size}
 use Rattle.simple_convergency.specs.declared.StopRule.{StopRule}
 use Rattle.searching.specs.Programs.{rising, differ, productDeparts, oracle, Event, Prog, Turned}
@@ -43,7 +43,7 @@ after-signs : (b : Bool) (m : ℕ) → b ≡ false → ZeroOrTwo m → ZeroOrTwo
 unfolding markAfter
 after-signs b m e z = rw e z
 
-module _ (a : List Float) (stop : StopRule) (good : badEps (stop .eps) ≡ false) (small : stop .limit ≤ 400) where
+module _ (a : List Float) (stop : StopRule) (good : badEps (stop .eps) ≡ false) (small : stop .limit ≤ greatestLimit) where
   -- a state with n steps left, and the mark of its history
   abbrev Marked : ℕ → Illinois → List Event → Type 0
   Marked n s h = Heavy stop n s × ZeroOrTwo (markIn h)
@@ -56,15 +56,15 @@ module _ (a : List Float) (stop : StopRule) (good : badEps (stop .eps) ≡ false
   Reaches n g h = Ends (oracle a) (After (Marked n) Post) g h
 
   -- the opening's product says what the signs do
-  signs-agree : (p q : Sample) → T (atLeast 300 (p .y)) → T (atLeast 300 (q .y)) → productDeparts p q ≡ false
+  signs-agree : (p q : Sample) → T (atLeast leastPower (p .y)) → T (atLeast leastPower (q .y)) → productDeparts p q ≡ false
   unfolding productDeparts
-  signs-agree p q z w = rw (product-tells (p .y) (q .y) 300 300 (omega arith) z w) (go (sameSign (p .y) (q .y)))
+  signs-agree p q z w = rw (product-tells (p .y) (q .y) leastPower leastPower (omega arith) z w) (go (sameSign (p .y) (q .y)))
     where
       go : (b : Bool) → differ b b ≡ false
       go true = refl
       go false = refl
 
-  marks-second : (p q : Sample) (h : List Event) → T (atLeast 300 (p .y)) → finite (q .y) ≡ true → ZeroOrTwo (markIn h) → Reaches (turnsOf stop) (secondAt stop p q) h
+  marks-second : (p q : Sample) (h : List Event) → T (atLeast leastPower (p .y)) → finite (q .y) ≡ true → ZeroOrTwo (markIn h) → Reaches (turnsOf stop) (secondAt stop p q) h
   unfolding secondAt markIn
   marks-second p q h z f m =
       ends-stops stop _ (λ e. ends-done m)

@@ -9,7 +9,7 @@ use Rattle.doubles.specs.Doubles.{above, sameSign}
 use Rattle.doubles.specs.Products.{stands}
 use Rattle.doubles.specs.Sizes.{atLeast, half-size, half-stands, sided, same-sign-is, product-tells}
 use Rattle.numerical.specs.declared.Sample.{Sample}
-use Rattle.simple_convergency.specs.Stop.{turnsOf}
+use Rattle.simple_convergency.specs.Stop.{leastPower, greatestLimit, turnsOf}
 use Rattle.simple_convergency.specs.declared.StopRule.{StopRule}
 use Rattle.regula_falsi.specs.RegulaFalsi.{whole, halved, rightAfter, leftAfter, elsewhere, replacedOf, departs}
 use Rattle.regula_falsi.specs.RegulaFalsiKeeps.{replaced-signs}
@@ -18,10 +18,10 @@ use Rattle.regula_falsi.specs.declared.Edge.{Edge}
 use Rattle.regula_falsi.specs.declared.Edge.the-variants.{EdgeX1, NoEdge, EdgeX2}
 use Rattle.regula_falsi.specs.declared.Illinois.{Illinois}
 
--- an end with n steps left: it weighs 2 ^ -300, halved once a step at most, and its weight has its value's sign
+-- an end with n steps left: it weighs 2 ^ -leastPower, halved once a step at most, and its weight has its value's sign
 pub record Weighs (stop : StopRule) (n : ℕ) (e : End) : Type 0 where
   pub power : ℕ
-  pub bound : power + n ≤ 300 + turnsOf stop
+  pub bound : power + n ≤ leastPower + turnsOf stop
   pub size : T (atLeast power (e .weight))
   pub side : Bool
   pub weight-side : T (stands side (e .weight))
@@ -34,16 +34,16 @@ pub record Heavy (stop : StopRule) (n : ℕ) (s : Illinois) : Type 0 where
   pub apart : sameSign (s .left .at .y) (s .right .at .y) ≡ false
   pub within : n ≤ turnsOf stop
 
-module _ (stop : StopRule) (small : stop .limit ≤ 400) where
-  few : turnsOf stop ≤ 400
+module _ (stop : StopRule) (small : stop .limit ≤ greatestLimit) where
+  few : turnsOf stop ≤ greatestLimit
   few = omega (arith, small)
 
   weighs-on : (n : ℕ) (e : End) → Weighs stop (suc n) e → Weighs stop n e
   weighs-on n e w =
       record { power = w .power; bound = omega (arith, w .bound); size = w .size; side = w .side; weight-side = w .weight-side; value-side = w .value-side }
 
-  pub weighs-whole : (n : ℕ) (p : Sample) → n ≤ turnsOf stop → T (atLeast 300 (p .y)) → Weighs stop n (whole p)
-  weighs-whole n p l h = let s = sided 300 (p .y) h in record { power = 300; bound = omega (arith, l); size = h; side = s .0; weight-side = s .1; value-side = s .1 }
+  pub weighs-whole : (n : ℕ) (p : Sample) → n ≤ turnsOf stop → T (atLeast leastPower (p .y)) → Weighs stop n (whole p)
+  weighs-whole n p l h = let s = sided leastPower (p .y) h in record { power = leastPower; bound = omega (arith, l); size = h; side = s .0; weight-side = s .1; value-side = s .1 }
 
   weighs-half : (n : ℕ) (e : End) → Weighs stop (suc n) e → Weighs stop n (halved e)
   unfolding ofBits
@@ -69,7 +69,7 @@ module _ (stop : StopRule) (small : stop .limit ≤ 400) where
   left-weighs n EdgeX2 e w = weighs-half n e w
 
   -- the next state weighs too
-  pub replaced-heavy : (n : ℕ) (s : Illinois) (p : Sample) → T (atLeast 300 (p .y)) → Heavy stop (suc n) s → Heavy stop n (replacedOf s p)
+  pub replaced-heavy : (n : ℕ) (s : Illinois) (p : Sample) → T (atLeast leastPower (p .y)) → Heavy stop (suc n) s → Heavy stop n (replacedOf s p)
   unfolding replacedOf
   replaced-heavy n s p z b = go (sameSign (p .y) (s .left .at .y)) refl
     where
@@ -104,18 +104,18 @@ module _ (stop : StopRule) (small : stop .limit ≤ 400) where
   settled false false false e = absurd (true≢false e)
 
   -- a product with an end's weight says whether the signs are the same
-  weight-tells : (n : ℕ) (e : End) (p : Sample) → Weighs stop n e → T (atLeast 300 (p .y)) → above (mul binary64 (p .y) (e .weight)) ≡ sameSign (p .y) (e .at .y)
+  weight-tells : (n : ℕ) (e : End) (p : Sample) → Weighs stop n e → T (atLeast leastPower (p .y)) → above (mul binary64 (p .y) (e .weight)) ≡ sameSign (p .y) (e .at .y)
   weight-tells n e p w z =
-      let v = sided 300 (p .y) z in
-      product-tells (p .y) (e .weight) 300 (w .power) (omega (arith, w .bound, few)) z (w .size)
+      let v = sided leastPower (p .y) z in
+      product-tells (p .y) (e .weight) leastPower (w .power) (omega (arith, w .bound, few)) z (w .size)
       ∙ same-sign-is (v .0) (w .side) _ _ (v .1) (w .weight-side)
       ∙ sym (same-sign-is (v .0) (w .side) _ _ (v .1) (w .value-side))
 
   -- rule 1 never departs
-  pub never-departs : (n : ℕ) (s : Illinois) (p : Sample) → T (atLeast 300 (p .y)) → Heavy stop n s → departs s p ≡ false
+  pub never-departs : (n : ℕ) (s : Illinois) (p : Sample) → T (atLeast leastPower (p .y)) → Heavy stop n s → departs s p ≡ false
   unfolding departs
   never-departs n s p z b =
-      let v = sided 300 (p .y) z in
+      let v = sided leastPower (p .y) z in
       let l = b .left-end in
       let r = b .right-end in
       rw (

@@ -11,8 +11,9 @@ ghost use Prim.Native.Nat.{_≤_};
 ghost use lib.Ieee.{Float};
 ghost use Rattle.numerical.specs.Tallies.{Room};
 ghost use Rattle.numerical.specs.declared.Answer.the-variants.{ByValue};
+ghost use Rattle.simple_convergency.specs.Stop.{greatestLimit};
 ghost use Rattle.searching.specs.Programs.{ended, next, oracle, play, tallied};
-ghost use Rattle.searching.specs.LoopLaws.{runOf};
+ghost use Rattle.searching.specs.LoopLaws.{Ample, runOf};
 ghost use Rattle.regula_falsi.specs.RegulaFalsi.{halved, secondAt, firstAt, ordered, opening, candidateOf, rightAfter, leftAfter, leftReplaced, rightReplaced, replacedOf, departs, arrived, landed, pulledIn, turnFrom, regulaFalsi, viewed};
 
 // An end of the pair: its sample, and the value that the chord is drawn with.
@@ -295,7 +296,7 @@ fn take_turn(a: &[f64], stop: StopRule, s: Illinois, p: Progress) -> Turn
 
 // From a state on: a step at a time, until an end or the limit.
 fn searched(a: &[f64], stop: StopRule, begun: Illinois, progress: Progress, most: u64) -> Outcome
-    requires { ⌜ (most ≤ 400) × Room 2000 progress ⌝ }
+    requires { ⌜ (most ≤ greatestLimit) × Ample progress ⌝ }
     ensures { λ r. ⌜ r ≡ runOf (now (a .entry)) (turnFrom stop) most begun progress ⌝ }
 {
     let mut s = begun;
@@ -322,7 +323,7 @@ fn searched(a: &[f64], stop: StopRule, begun: Illinois, progress: Progress, most
 
 // A root by the Illinois form of regula falsi between two points: the opening, and the steps from there.
 pub fn find_root(a: &[f64], stop: StopRule, from: f64, to: f64) -> Outcome
-    requires { ⌜ stop .limit ≤ 400 ⌝ }
+    requires { ⌜ stop .limit ≤ greatestLimit ⌝ }
     ensures { λ r. ⌜ r ≡ regulaFalsi (now (a .entry)) stop from to ⌝ }
 {
     let turn = opened(a, stop, from, to, Progress::fresh());

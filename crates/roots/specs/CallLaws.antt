@@ -11,8 +11,8 @@ use lib.Ieee.{Float, nan}
 use lib.Ieee.Scale.{finite}
 use Rattle.numerical.specs.Answers.{refusedAtOnce}
 use Rattle.numerical.specs.declared.Outcome.{Outcome}
-use Rattle.simple_convergency.specs.Stop.{checkedOf}
-use Rattle.simple_convergency.specs.StopLaws.{passed}
+use Rattle.simple_convergency.specs.Stop.{greatestLimit, checkedOf}
+use Rattle.simple_convergency.specs.StopLaws.{Passed, passed}
 use Rattle.simple_convergency.specs.declared.StopRule.{StopRule}
 use Rattle.simple_convergency.specs.declared.Checked.{Checked}
 use Rattle.simple_convergency.specs.declared.Checked.the-variants.{Rule, Refused}
@@ -64,6 +64,24 @@ one-finite x e = e ∙ go (finite x)
 
 pub by-method : {r : Outcome} (a : List Float) (stop : StopRule) (m : Method) {n : Method} → m ≡ n → r ≡ foundBy a stop n → r ≡ foundBy a stop m
 by-method a stop m e k = rw e k
+
+-- ---- by what the stop rule's check gave
+
+module _ (a : List Float) (m : Method) (eps : Float) (limit : ℕ) {c : Checked} {r : Outcome} (e : c ≡ checkedOf eps limit) where
+  pub by-rule : {stop : StopRule} → c ≡ Rule stop → r ≡ foundBy a stop m → r ≡ foundUnder a m (checkedOf eps limit)
+  by-rule k g = g ∙ ap (foundUnder a m) (sym k ∙ e)
+
+  pub by-refusal : {n : ℕ} → c ≡ Refused n → r ≡ refusedAtOnce n → r ≡ foundUnder a m (checkedOf eps limit)
+  by-refusal k g = g ∙ ap (foundUnder a m) (sym k ∙ e)
+
+-- ---- what a rule that was checked keeps to
+
+module _ (eps : Float) (limit : ℕ) {c : Checked} {stop : StopRule} (e : c ≡ checkedOf eps limit) (k : c ≡ Rule stop) where
+  rule : Passed eps limit stop
+  rule = passed eps limit stop (sym e ∙ k)
+
+  pub limit-kept : stop .limit ≤ greatestLimit
+  limit-kept = rw (rule .same-limit) (rule .in-range)
 
 -- ---- where all are finite, each is
 

@@ -57,7 +57,3 @@ answer a m eps limit =
     (foundUnder a m (checkedOf eps limit))
     (refusedAtOnce 3))
     (refusedAtOnce 2))
-
--- "Plain `f64` used as a Convergency equals eps with limit 30"
-abbrev pub plainLimit : ℕ
-plainLimit = 30

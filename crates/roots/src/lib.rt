@@ -1,13 +1,12 @@
 // The calls that a customer makes: one search over lent coefficients, and one for each method under its name in the Rust.
-use numerical::Answer;
 use numerical::Outcome;
 use simple_convergency::Checked;
 use simple_convergency::StopRule;
 ghost use mathlib.Core.Path.{_≡_};
 ghost use mathlib.Core.List.{[], _∷_};
-ghost use Rattle.roots.specs.Calls.{badCount, allFinite, startsOf, foundBy, answer, plainLimit};
-ghost use Rattle.roots.specs.Coefficients.{checkOf, refusedBefore, leavesOpen, afterLook};
-ghost use Rattle.roots.specs.CoefficientLaws.{Checking};
+ghost use Prim.Native.Nat.{_≤_};
+ghost use Rattle.simple_convergency.specs.Stop.{greatestLimit, plainLimit};
+ghost use Rattle.roots.specs.Calls.{badCount, allFinite, startsOf, foundBy, answer};
 
 // A method with its starts.
 pub enum Method {
@@ -69,7 +68,7 @@ fn starts_finite(method: Method) -> bool
 
 // The method's own search, for a call that was checked.
 fn found_by(a: &[f64], stop: StopRule, method: Method) -> Outcome
-    requires { ⌜ Checking stop method ⌝ }
+    requires { ⌜ stop .limit ≤ greatestLimit ⌝ }
     ensures { λ r. ⌜ r ≡ foundBy (now (a .entry)) stop method ⌝ }
 {
     match method {
@@ -81,73 +80,23 @@ fn found_by(a: &[f64], stop: StopRule, method: Method) -> Outcome
     }
 }
 
-// The rule that a call has, or the first of refusals 1, 3, 4 and 5. None of these looks at the coefficients.
-fn check(count: usize, method: Method, eps: f64, limit: u64) -> Checked
-    ensures { λ r. ⌜ r ≡ checkOf count method eps limit ⌝ }
-{
-    if is_bad_count(count) {
-        return Checked::Refused(1);
-    }
-    if starts_finite(method) {
-        StopRule::checked(eps, limit)
-    } else {
-        Checked::Refused(3)
-    }
-}
-
-// A refusal that comes before any evaluation: 2 goes before 3 to 5, and 1 before it.
-fn refused(a: &[f64], number: u8) -> Outcome
-    ensures { λ r. ⌜ r ≡ refusedBefore (now (a .entry)) number ⌝ }
-{
-    if number == 1 {
-        return Outcome::refused_at_once(number);
-    }
-    if all_finite(a) {
-        Outcome::refused_at_once(number)
-    } else {
-        Outcome::refused_at_once(2)
-    }
-}
-
-// Whether an answer leaves it open that a coefficient isn't finite: 9 does. Where a value was finite, all coefficients are.
-fn leaves_open(answer: Answer) -> bool
-    ensures { λ r. ⌜ r ≡ leavesOpen answer ⌝ }
-{
-    match answer {
-        Answer::ByValue { root: _, value: _ } => false,
-        Answer::ByWidth {
-            root: _,
-            p: _,
-            q: _,
-        } => false,
-        Answer::Refused(number) => number == 9,
-    }
-}
-
-// The outcome, or refusal 2 where that is left open and a coefficient isn't finite.
-fn after_look(a: &[f64], outcome: Outcome) -> Outcome
-    ensures { λ r. ⌜ r ≡ afterLook (now (a .entry)) outcome ⌝ }
-{
-    let answer = outcome.answer;
-    if leaves_open(answer) {
-        if all_finite(a) {
-            outcome
-        } else {
-            Outcome::refused_at_once(2)
-        }
-    } else {
-        outcome
-    }
-}
-
-// A search: refusals 1 to 5 in that order, and then the method. Only what leaves 2 open costs a pass over the coefficients.
+// A search: refusals 1 to 5 in that order, before any evaluation, and then the method.
 pub fn search(a: &[f64], method: Method, eps: f64, limit: u64) -> Outcome
     ensures { λ r. ⌜ r ≡ answer (now (a .entry)) method eps limit ⌝ }
 {
-    let checked = check(a.len(), method, eps, limit);
+    if is_bad_count(a.len()) {
+        return Outcome::refused_at_once(1);
+    }
+    if !all_finite(a) {
+        return Outcome::refused_at_once(2);
+    }
+    if !starts_finite(method) {
+        return Outcome::refused_at_once(3);
+    }
+    let checked = StopRule::checked(eps, limit);
     match checked {
-        Checked::Rule(stop) => after_look(a, found_by(a, stop, method)),
-        Checked::Refused(number) => refused(a, number),
+        Checked::Rule(stop) => found_by(a, stop, method),
+        Checked::Refused(number) => Outcome::refused_at_once(number),
     }
 }
 
@@ -155,7 +104,7 @@ pub fn search(a: &[f64], method: Method, eps: f64, limit: u64) -> Outcome
 pub fn search_plain(a: &[f64], method: Method, eps: f64) -> Outcome
     ensures { λ r. ⌜ r ≡ answer (now (a .entry)) method eps plainLimit ⌝ }
 {
-    search(a, method, eps, 30)
+    search(a, method, eps, StopRule::PLAIN_LIMIT)
 }
 
 pub fn find_root_brent(from: f64, to: f64, a: &[f64], eps: f64, limit: u64) -> Outcome

@@ -1,5 +1,5 @@
 -- Laws of the events of a history: how a search goes on from event to event, and how it ends.
-use Prim.Native.Nat.{ℕ, _+_, _≤_}
+use Prim.Native.Nat.{ℕ, _≤_}
 use native.Mathlib.Omega.{arith}
 use mathlib.Core.Bool.{Bool, true, false, _&&_, cond, true≢false, false≢true}
 use mathlib.Core.List.{List, [], _∷_}
@@ -11,7 +11,6 @@ use lib.Ieee.{Float}
 use Rattle.doubles.specs.Doubles.{pulled, outside}
 use Rattle.numerical.specs.Tallies.{markAfter}
 use Rattle.numerical.specs.declared.Answer.{Answer}
-use Rattle.numerical.specs.declared.Answer.the-variants.{Refused}
 use Rattle.numerical.specs.declared.Interval.{Interval}
 use Rattle.numerical.specs.declared.Sample.{Sample}
 use Rattle.simple_convergency.specs.declared.StopRule.{StopRule}
@@ -23,7 +22,7 @@ use Rattle.polynom.specs.declared.ValueAndDerivative.{ValueAndDerivative}
 use Rattle.searching.specs.Programs.{Test, found, converged, flat, alike, tested, candidate, ruled, paired, stepped, log, Event, asked, askedBoth, noted, Prog, Turned, stops, valueAt, bothAt, offered, pulledInto, bracketed, narrowsTo, Oracle}
 use Rattle.searching.specs.Histories.{valuesIn, stepsIn, markIn}
 use Rattle.searching.specs.Brackets.{pairsIn}
-use Rattle.searching.specs.Events.{signsMissed, evaluationsIn, Newest, Each, Width, BeforePairs, Ordered, Traced, Opening, Tracing}
+use Rattle.searching.specs.Events.{signsMissed, evaluationsIn, Newest, Each, Width, BeforePairs, Traced, Opening, Tracing}
 use Rattle.searching.specs.Keeps.{Ends, After, ends-log, ends-stops, ends-value, ends-both, ends-offered, ends-pulled, ends-bracketed, ends-narrows}
 
 -- an event that is no pair, no step and no sign test

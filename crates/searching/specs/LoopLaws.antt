@@ -1,5 +1,5 @@
 -- The search of every method: what its opening came to, and its loop. After n turns the code stands at a state s, and what is left of the run gives the whole answer.
-use Prim.Native.Nat.{ℕ, zero, suc, _+_, _*_, _-_, _≤_, _<_}
+use Prim.Native.Nat.{ℕ, suc, _+_, _*_, _-_, _≤_, _<_}
 use native.Mathlib.Omega.{arith}
 use native.Mathlib.Nat.{sub-zero}
 use mathlib.Core.List.{List}
@@ -12,7 +12,8 @@ use Rattle.numerical.specs.declared.Answer.{Answer}
 use Rattle.numerical.specs.declared.Answer.the-variants.{Refused}
 use Rattle.numerical.specs.declared.Outcome.{Outcome}
 use Rattle.numerical.specs.declared.Progress.{Progress}
-use Rattle.searching.specs.Programs.{Prog, Turned, ended, next, bind, run, searches, oracle, play, tallied, answerOf}
+use Rattle.simple_convergency.specs.Stop.{greatestLimit}
+use Rattle.searching.specs.Programs.{Prog, Turned, ended, next, run, searches, oracle, play, tallied, answerOf}
 use Rattle.searching.specs.ProgramLaws.{play-bind, run-ended}
 use Rattle.searching.specs.Bounds.{Within, within-room}
 
@@ -30,13 +31,17 @@ pub record Turns (S T : Type 0) : Type 0 where
 unfoldable pub runOf : {S : Type 0} → List Float → (S → Prog (Turned S)) → ℕ → S → Progress → Outcome
 runOf cs turn n s p = outcome (play tallied (oracle cs) (run turn n (next s)) p)
 
+-- room for as many turns as a limit allows, and to spare: a turn adds at most three to a tally
+abbrev pub Ample : Progress → Type 0
+Ample p = Room (5 * greatestLimit) p
+
 -- after an opening there is room for all turns
 pub opened-room :
     {S : Type 0} (opening : Prog (Turned S)) (cs : List Float) {u : Turned S} {p q : Progress} →
-    q ≡ fresh → (u, p) ≡ play tallied (oracle cs) opening q → Within 3 3 3 opening → Room 2000 p
+    q ≡ fresh → (u, p) ≡ play tallied (oracle cs) opening q → Within 3 3 3 opening → Ample p
 opened-room {S} opening cs begun opened small =
     let came-to = opened ∙ ap (play tallied (oracle cs) opening) begun in
-    rw (ap (λ (r : Turned S × Progress). r .1) came-to) (within-room (oracle cs) small (omega arith) (omega arith) (omega arith) (omega arith) (room-fresh {k = 2 * 2 * 1000} (omega arith) refl))
+    rw (ap (λ (r : Turned S × Progress). r .1) came-to) (within-room (oracle cs) small (omega arith) (omega arith) (omega arith) (omega arith) (room-fresh {k = 5 * greatestLimit + 3} (omega arith) refl))
 
 module _
     {S T : Type 0} (m : Turns S T) (opening : Prog (Turned S)) (turns : Turned S → ℕ) (cs : List Float)
@@ -59,10 +64,10 @@ module _ {S T : Type 0} (m : Turns S T) (cs : List Float) (w : Outcome) where
   pub record Loops (most n : ℕ) (s : S) (p : Progress) : Type 0 where
     pub rest : runOf cs (m .turn) (most - n) s p ≡ w
     pub passed : n ≤ most
-    pub top : most ≤ 400
+    pub top : most ≤ greatestLimit
     pub room : Room (3 * (most - n)) p
 
-  pub loops-first : {most : ℕ} {s : S} {p : Progress} → most ≤ 400 → Room 2000 p → w ≡ runOf cs (m .turn) most s p → Loops most 0 s p
+  pub loops-first : {most : ℕ} {s : S} {p : Progress} → most ≤ greatestLimit → Ample p → w ≡ runOf cs (m .turn) most s p → Loops most 0 s p
   loops-first h r e =
       let a = r .steps in let b = r .values in let c = r .derivatives in
       record { rest = rw (e, sub-zero) refl; passed = omega arith; top = h; room = record { steps = omega arith; values = omega arith; derivatives = omega arith } }

@@ -1,21 +1,18 @@
 -- One law for each word of the language: what the code did there gives what the definition says. They hold for every method.
 use Prim.Native.Nat.{ℕ}
-use native.Mathlib.Omega.{arith}
 use mathlib.Core.Bool.{Bool, true, false, cond}
 use mathlib.Core.List.{List}
 use mathlib.Core.Path.{_≡_, refl, _∙_, ap, sym}
 use lib.Ieee.{Float, lt}
 use lib.Ieee.Scale.{finite}
 use Rattle.doubles.specs.Doubles.{outside, pulled, sameSign}
-use Rattle.doubles.specs.Signs.{small-finite}
 use Rattle.numerical.specs.Tallies.{valuedOf, slopedOf, steppedOf, ruledOf}
 use Rattle.numerical.specs.declared.Answer.the-variants.{Refused}
 use Rattle.numerical.specs.declared.Interval.{Interval}
 use Rattle.numerical.specs.declared.Progress.{Progress}
 use Rattle.numerical.specs.declared.Sample.{Sample}
-use Rattle.simple_convergency.specs.Stop.{foundAt}
 use Rattle.simple_convergency.specs.declared.StopRule.{StopRule}
-use Rattle.polynom.specs.Polynom.{value, sampleOf, kept, evaluated, evaluatedBoth}
+use Rattle.polynom.specs.Polynom.{evaluated, evaluatedBoth}
 use Rattle.polynom.specs.declared.ValueAndDerivative.{ValueAndDerivative}
 use Rattle.polynom.specs.declared.Evaluated.{Evaluated}
 use Rattle.polynom.specs.declared.Evaluated.the-variants.{At, NotFinite}
@@ -48,9 +45,6 @@ module _ {A : Type 0} (cs : List Float) (p : Progress) {r : A × Progress} where
   pub by-missed : {f : Bool} (stop : StopRule) (t : Test) (g h : Prog A) → f ≡ holds stop t → f ≡ false → r ≡ play tallied (oracle cs) h p → r ≡ play tallied (oracle cs) (stops stop t g h) p
   unfolding stops play
   by-missed stop t g h e y k = by-false (holds stop t) g h e y k
-
-  pub by-known-missed : (stop : StopRule) (t : Test) (g h : Prog A) → holds stop t ≡ false → r ≡ play tallied (oracle cs) h p → r ≡ play tallied (oracle cs) (stops stop t g h) p
-  by-known-missed stop t g h y k = by-missed stop t g h refl y k
 
   pub by-rule :
       {q : Progress} {f : Bool} (n : ℕ) (b : Bool) (g : Prog A) →
@@ -98,25 +92,6 @@ module _ {S : Type 0} (cs : List Float) (p : Progress) {r : Turned S × Progress
       {q : Progress} {e : Evaluated} {y : Float} (x : Float) (k : Sample → Prog (Turned S)) →
       q ≡ valuedOf p → e ≡ evaluated cs y → e ≡ NotFinite → y ≡ x → r ≡ (ended (Refused 9), q) → r ≡ play tallied (oracle cs) (valueAt x k) p
   by-no-value-at x k q e s y g = by-no-value x k q (e ∙ ap (evaluated cs) y) s g
-
-  -- a value that is found need not be looked at: it is finite
-  pub by-found :
-      {q : Progress} {f : Bool} {y : Float} (stop : StopRule) (x : Float) (k : Sample → Prog (Turned S)) →
-      q ≡ valuedOf p → y ≡ value cs x → f ≡ foundAt stop y → f ≡ true → r ≡ play tallied (oracle cs) (k (sampleOf x y)) q → r ≡ play tallied (oracle cs) (valueAt x k) p
-  unfolding evaluated foundAt
-  by-found {y = y} stop x k q v f t g = by-value x k q (rw (← v, small-finite y (stop .eps) (sym f ∙ t)) refl) refl g
-
-  pub by-kept :
-      {q : Progress} {e : Evaluated} {s : Sample} {y : Float} (x : Float) (k : Sample → Prog (Turned S)) →
-      q ≡ valuedOf p → y ≡ value cs x → e ≡ kept x y → e ≡ At s → r ≡ play tallied (oracle cs) (k s) q → r ≡ play tallied (oracle cs) (valueAt x k) p
-  unfolding evaluated
-  by-kept x k q v e s g = by-value x k q (e ∙ ap (kept x) v) s g
-
-  pub by-not-kept :
-      {q : Progress} {e : Evaluated} {y : Float} (x : Float) (k : Sample → Prog (Turned S)) →
-      q ≡ valuedOf p → y ≡ value cs x → e ≡ kept x y → e ≡ NotFinite → r ≡ (ended (Refused 9), q) → r ≡ play tallied (oracle cs) (valueAt x k) p
-  unfolding evaluated
-  by-not-kept x k q v e s g = by-no-value x k q (e ∙ ap (kept x) v) s g
 
   pub by-both :
       {q : Progress} {e : EvaluatedBoth} {s : ValueAndDerivative} (x : Float) (k : ValueAndDerivative → Prog (Turned S)) →
@@ -207,16 +182,3 @@ module _ {S : Type 0} (cs : List Float) (p : Progress) {r : Turned S × Progress
 
 -- all of them, for `search`
 pub ruleset steps = (by-true, by-false, by-held, by-missed, by-rule, by-pulled, by-placed, by-alike, by-value, by-no-value, by-value-at, by-no-value-at, by-both, by-not-both, by-offer, by-no-offer, by-rising, by-next, by-step, by-step-to, by-narrow, by-narrow-to, by-bracket, by-bracket-to, by-no-bracket, by-bracket-decided, by-bracket-decided-to, by-no-bracket-decided, by-done)
-
--- the sample that was kept is not found, as its value was not
-pub kept-missed : {f : Bool} {e : Evaluated} {s : Sample} (stop : StopRule) (x y : Float) → f ≡ foundAt stop y → f ≡ false → e ≡ kept x y → e ≡ At s → foundAt stop (s .y) ≡ false
-kept-missed {s = s} stop x y f t e k = go (finite y) (sym e ∙ k)
-  where
-    go : (b : Bool) → cond b (At (sampleOf x y)) NotFinite ≡ At s → foundAt stop (s .y) ≡ false
-    go true z = let same : y ≡ s .y = cc in ap (foundAt stop) (sym same) ∙ sym f ∙ t
-    go false z = absurd (let q : _≡_ {A = ℕ} 0 1 = cc in omega arith)
-
--- where found is tested before the value is looked at: it held, or it missed
-pub ruleset found-first = (by-found, by-held, by-done)
-
-pub ruleset missed-first = (by-kept, by-not-kept, by-known-missed, kept-missed, by-done)

@@ -10,7 +10,7 @@ use Rattle.simple_convergency.specs.declared.StopRule.{StopRule}
 use Rattle.searching.specs.Programs.{oracle, Event, asked, Prog, Turned}
 use Rattle.searching.specs.Events.{evaluationsIn, candidatesIn, Candidate, SampledTwo, LastPoint, Each, Ordered}
 use Rattle.searching.specs.Keeps.{Ends, After, ends-done, ends-stops, ends-value, ends-offered, ends-steps, ends-searches}
-use Rattle.secant.specs.Secant.{secondAt, firstAt, opening, candidateOf, arrived, landed, turnFrom, secantProgram}
+use Rattle.secant.specs.Secant.{secondAt, firstAt, opening, arrived, landed, turnFrom, secantProgram}
 use Rattle.secant.specs.SecantEvents.{Follows, Gives}
 use Rattle.secant.specs.declared.Secant.{Secant}
 

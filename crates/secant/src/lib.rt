@@ -5,17 +5,16 @@ use numerical::Progress;
 use numerical::Sample;
 use polynom::Evaluated;
 use simple_convergency::StopRule;
-ghost use mathlib.Core.Bool.{false};
 ghost use mathlib.Core.Path.{_≡_};
 ghost use mathlib.Core.List.{List};
 ghost use Prim.Native.Nat.{_≤_};
 ghost use lib.Ieee.{Float};
 ghost use Rattle.numerical.specs.Tallies.{Room};
 ghost use Rattle.numerical.specs.declared.Answer.the-variants.{ByValue};
-ghost use Rattle.simple_convergency.specs.Stop.{foundAt};
+ghost use Rattle.simple_convergency.specs.Stop.{greatestLimit};
 ghost use Rattle.searching.specs.Programs.{ended, next, oracle, play, tallied};
-ghost use Rattle.searching.specs.LoopLaws.{runOf};
-ghost use Rattle.secant.specs.Secant.{firstAt, opening, candidateOf, arrived, landed, turnFrom, secant, viewed};
+ghost use Rattle.searching.specs.LoopLaws.{Ample, runOf};
+ghost use Rattle.secant.specs.Secant.{secondAt, firstAt, opening, candidateOf, arrived, landed, turnFrom, secant, viewed};
 
 // The two last points.
 pub struct Secant {
@@ -66,40 +65,39 @@ fn by_value(s: Sample, progress: Progress) -> Turn
 
 // ---- the opening
 
-// The first start isn't found, and the second is evaluated: it is found, or both are kept. What is found is finite, so found is tested first.
+// Both starts were evaluated: the second is found, or the two are the first state.
+fn second_at(stop: StopRule, first: Sample, second: Sample, progress: Progress) -> Turn
+    ensures { λ r. ⌜ ((cs : List Float) → viewed r ≡ play tallied (oracle cs) (secondAt stop first second) progress) ⌝ }
+{
+    if stop.found(second.y) {
+        return by_value(second, progress);
+    }
+    goes_on(Secant { first, second }, progress)
+}
+
+// The first start was evaluated: it is found, or the second is evaluated.
 fn first_at(a: &[f64], stop: StopRule, second: f64, p: Sample, progress: Progress) -> Turn
-    requires { ⌜ Room 1 progress × (foundAt stop (p .y) ≡ false) ⌝ }
+    requires { ⌜ Room 1 progress ⌝ }
     ensures { λ r. ⌜ viewed r ≡ play tallied (oracle (now (a .entry))) (firstAt stop second p) progress ⌝ }
 {
-    let counted = progress.valued();
-    let y2 = polynom::value(a, second);
-    if stop.found(y2) {
-        return by_value(Sample { x: second, y: y2 }, counted);
+    if stop.found(p.y) {
+        return by_value(p, progress);
     }
-    let e = polynom::kept(second, y2);
+    let counted = progress.valued();
+    let e = polynom::evaluate(a, second);
     let Evaluated::At(q) = e else {
         return ended(Answer::Refused(9), counted);
     };
-    goes_on(
-        Secant {
-            first: p,
-            second: q,
-        },
-        counted,
-    )
+    second_at(stop, p, q, counted)
 }
 
-// The first start is evaluated: it is found, or the second is evaluated too.
+// The first start is evaluated.
 fn opened(a: &[f64], stop: StopRule, first: f64, second: f64, progress: Progress) -> Turn
     requires { ⌜ Room 2 progress ⌝ }
     ensures { λ r. ⌜ viewed r ≡ play tallied (oracle (now (a .entry))) (opening stop first second) progress ⌝ }
 {
     let counted = progress.valued();
-    let y1 = polynom::value(a, first);
-    if stop.found(y1) {
-        return by_value(Sample { x: first, y: y1 }, counted);
-    }
-    let e = polynom::kept(first, y1);
+    let e = polynom::evaluate(a, first);
     let Evaluated::At(p) = e else {
         return ended(Answer::Refused(9), counted);
     };
@@ -171,7 +169,7 @@ fn take_turn(a: &[f64], stop: StopRule, s: Secant, progress: Progress) -> Turn
 
 // From a state on: a step at a time, until an end or the limit.
 fn searched(a: &[f64], stop: StopRule, begun: Secant, progress: Progress, most: u64) -> Outcome
-    requires { ⌜ (most ≤ 400) × Room 2000 progress ⌝ }
+    requires { ⌜ (most ≤ greatestLimit) × Ample progress ⌝ }
     ensures { λ r. ⌜ r ≡ runOf (now (a .entry)) (turnFrom stop) most begun progress ⌝ }
 {
     let mut s = begun;
@@ -198,7 +196,7 @@ fn searched(a: &[f64], stop: StopRule, begun: Secant, progress: Progress, most: 
 
 // A root by the secant method from two points: the opening, and the steps from there.
 pub fn find_root(a: &[f64], stop: StopRule, first: f64, second: f64) -> Outcome
-    requires { ⌜ stop .limit ≤ 400 ⌝ }
+    requires { ⌜ stop .limit ≤ greatestLimit ⌝ }
     ensures { λ r. ⌜ r ≡ secant (now (a .entry)) stop first second ⌝ }
 {
     let turn = opened(a, stop, first, second, Progress::fresh());

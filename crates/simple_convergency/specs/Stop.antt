@@ -9,15 +9,23 @@ use Rattle.simple_convergency.specs.declared.StopRule.{StopRule}
 use Rattle.simple_convergency.specs.declared.Checked.{Checked}
 use Rattle.simple_convergency.specs.declared.Checked.the-variants.{Rule, Refused}
 
--- "least eps 2^-300, greatest limit 400, most coefficients 16"
+-- "The stop rule owns its constants: least eps 2^-300, greatest limit 400, most coefficients 16"
 abbrev pub leastEps : Float
 leastEps = ofBits binary64 0x2d30_0000_0000_0000
+
+-- the least eps is 2 ^ -leastPower
+abbrev pub leastPower : ℕ
+leastPower = 300
 
 abbrev pub greatestLimit : ℕ
 greatestLimit = 400
 
 abbrev pub mostCoefficients : ℕ
 mostCoefficients = 16
+
+-- "Plain `f64` used as a Convergency equals eps with limit 30"
+abbrev pub plainLimit : ℕ
+plainLimit = 30
 
 -- "eps isn't finite or is below 2^-300"
 unfoldable pub badEps : Float → Bool

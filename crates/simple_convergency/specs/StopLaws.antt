@@ -1,5 +1,5 @@
 -- What the stop rule's numbers are, and what a rule that was checked keeps to.
-use Prim.Native.Nat.{ℕ, _≤_}
+use Prim.Native.Nat.{ℕ, _-_, _≤_}
 use native.Mathlib.Omega.{arith}
 use mathlib.Core.Bool.{Bool, true, false, cond, true≢false}
 use mathlib.Core.Path.{_≡_, refl}
@@ -12,12 +12,12 @@ use borrow.Author.Tests.{ltb-false}
 use Rattle.doubles.specs.Compare.{of-true, finite-num, lt-le-trans, no-lt-le}
 use Rattle.doubles.specs.Doubles.{nought, absolute, above}
 use Rattle.doubles.specs.Sizes.{atLeast, not-small}
-use Rattle.simple_convergency.specs.Stop.{leastEps, greatestLimit, badEps, checkedOf, foundAt}
+use Rattle.simple_convergency.specs.Stop.{leastEps, leastPower, greatestLimit, badEps, checkedOf, foundAt}
 use Rattle.simple_convergency.specs.declared.StopRule.{StopRule}
 use Rattle.simple_convergency.specs.declared.Checked.the-variants.{Rule, Refused}
 
 -- the least eps is 1 * 2 ^ -300
-pub least-eps-value : leastEps ≡ fin false 1 (negsuc 299)
+pub least-eps-value : leastEps ≡ fin false 1 (negsuc (leastPower - 1))
 unfolding ofBits
 least-eps-value = refl
 
@@ -52,9 +52,9 @@ unfolding lt ofBits
 good-eps-above eps e = is-true (lt nought eps) (lt-le-trans nought leastEps eps tt (least-below eps e))
 
 -- a finite value that is not found is 2 ^ -300 or more in size
-pub not-found-size : (stop : StopRule) (y : Float) → badEps (stop .eps) ≡ false → finite y ≡ true → foundAt stop y ≡ false → T (atLeast 300 y)
+pub not-found-size : (stop : StopRule) (y : Float) → badEps (stop .eps) ≡ false → finite y ≡ true → foundAt stop y ≡ false → T (atLeast leastPower y)
 unfolding foundAt
-not-found-size stop y g f n = not-small 299 y (of-true (finite y) f) (rw least-eps-value at (less (lt (absolute y) leastEps) (λ t. T-not (lt (absolute y) (stop .eps)) (rw n tt) (lt-le-trans (absolute y) leastEps (stop .eps) t (least-below (stop .eps) g)))))
+not-found-size stop y g f n = not-small (leastPower - 1) y (of-true (finite y) f) (rw least-eps-value at (less (lt (absolute y) leastEps) (λ t. T-not (lt (absolute y) (stop .eps)) (rw n tt) (lt-le-trans (absolute y) leastEps (stop .eps) t (least-below (stop .eps) g)))))
   where
     less : (b : Bool) → (T b → ⊥) → b ≡ false
     less true h = absurd (h tt)

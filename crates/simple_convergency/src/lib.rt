@@ -33,6 +33,9 @@ impl StopRule {
 
     pub const MOST_COEFFICIENTS: usize = 16;
 
+    // The limit of a rule that is given as its eps alone.
+    pub const PLAIN_LIMIT: u64 = 30;
+
     // The rule, or 4 for its eps, or else 5 for its limit.
     pub fn checked(eps: f64, limit: u64) -> Checked
         ensures { λ r. ⌜ r ≡ checkedOf eps limit ⌝ }

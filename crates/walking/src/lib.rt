@@ -10,8 +10,9 @@ ghost use mathlib.Core.List.{List};
 ghost use Prim.Native.Nat.{_≤_};
 ghost use lib.Ieee.{Float};
 ghost use Rattle.numerical.specs.Tallies.{Room};
+ghost use Rattle.simple_convergency.specs.Stop.{greatestLimit};
 ghost use Rattle.searching.specs.Programs.{ended, next, oracle, play, tallied};
-ghost use Rattle.searching.specs.LoopLaws.{runOf};
+ghost use Rattle.searching.specs.LoopLaws.{Ample, runOf};
 ghost use Rattle.walking.specs.Walking.{seenAt, turnFrom, walking, viewed};
 
 // Where a turn leads: to the walk's end, or to the next point.
@@ -79,7 +80,7 @@ fn take_turn(a: &[f64], stop: StopRule, x: f64, p: Progress) -> Turn
 
 // From a point on: a turn at a time, until an end or the limit.
 fn searched(a: &[f64], stop: StopRule, begun: f64, progress: Progress, most: u64) -> Outcome
-    requires { ⌜ (most ≤ 400) × Room 2000 progress ⌝ }
+    requires { ⌜ (most ≤ greatestLimit) × Ample progress ⌝ }
     ensures { λ r. ⌜ r ≡ runOf (now (a .entry)) (turnFrom stop) most begun progress ⌝ }
 {
     let mut x = begun;
@@ -106,7 +107,7 @@ fn searched(a: &[f64], stop: StopRule, begun: f64, progress: Progress, most: u64
 
 // The whole walk: its opening asks for nothing, so the turns are all.
 pub fn walk(a: &[f64], stop: StopRule, x: f64) -> Outcome
-    requires { ⌜ stop .limit ≤ 400 ⌝ }
+    requires { ⌜ stop .limit ≤ greatestLimit ⌝ }
     ensures { λ r. ⌜ r ≡ walking (now (a .entry)) stop x ⌝ }
 {
     searched(a, stop, x, Progress::fresh(), stop.turns())

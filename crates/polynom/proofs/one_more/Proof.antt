@@ -1,6 +1,5 @@
 -- `polynom::one_more` meets its contract. Assumes nothing.
 use borrow.Author.Needs.{needs}
-use native.Mathlib.Omega.{arith}
 use Rattle.polynom.specs.Terms.{sums-more}
 use Rattle.polynom.proofs.one_more.Statement.{statement}
 use Rattle.polynom.proofs.one_more.Tie as tie

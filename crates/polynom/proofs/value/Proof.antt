@@ -1,10 +1,8 @@
 -- `polynom::value` meets its contract. The loop's invariant: the coefficients from `left` on are summed, and an even number is left. Assumes nothing.
 use borrow.Author.Needs.{needs}
 use native.Mathlib.Omega.{arith}
-use Prim.Native.Nat.{_+_, _-_, _≤_}
-use mathlib.Core.Path.{_≡_}
-use lib.ListN.{length, drop}
-use Rattle.polynom.specs.Polynom.{sums, value}
+use Prim.Native.Nat.{_+_, _-_}
+use Rattle.polynom.specs.Polynom.{value}
 use Rattle.polynom.specs.Terms.{Passed, sums-at}
 use Rattle.polynom.proofs.value.Statement.{statement}
 use Rattle.polynom.proofs.value.Tie as tie

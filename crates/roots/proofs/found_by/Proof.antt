@@ -2,10 +2,6 @@ use Rattle.roots.specs.CallLaws.{by-method}
 use borrow.Author.Needs.{needs}
 use Rattle.roots.proofs.found_by.Statement.{statement}
 use Rattle.roots.proofs.found_by.Tie as tie
-use Rattle.newton_raphson.proofs.find_root.Reads as find-root-reads′
-use Rattle.polynom_search.proofs.find_root.Reads as find-root-reads′′
-use Rattle.regula_falsi.proofs.find_root.Reads as find-root-reads′′′
-use Rattle.secant.proofs.find_root.Reads as find-root-reads′′′′
 
 enum-known-method : tie.Need-enum-known-method
 enum-known-method c = search needs

@@ -1,41 +1,81 @@
-use Rattle.roots.specs.CoefficientLaws.{by-rule, by-refusal, checking}
+use Rattle.numerical.specs.Choices.{choices}
 use borrow.Author.Needs.{needs}
+use borrow.Author.Tests.{not-true, not-false}
+use Rattle.roots.specs.Calls.{answer}
+use Rattle.roots.specs.CallLaws.{by-rule, by-refusal, limit-kept}
 use Rattle.roots.proofs.search.Statement.{statement}
 use Rattle.roots.proofs.search.Tie as tie
 
-check-requires : tie.Need-check-requires
-check-requires c κs = search needs
+is-bad-count-requires : tie.Need-is-bad-count-requires
+is-bad-count-requires c κs = search needs
+
+refused-at-once-requires : tie.Need-refused-at-once-requires
+refused-at-once-requires c κs = search needs
+
+returns : tie.Need-returns
+unfolding answer
+returns c = search choices
+
+all-finite-requires : tie.Need-all-finite-requires
+all-finite-requires c κs = search needs
+
+refused-at-once-requires-2 : tie.Need-refused-at-once-requires-2
+refused-at-once-requires-2 c κs = search needs
+
+returns-2 : tie.Need-returns-2
+unfolding answer
+returns-2 c = search (choices, not-true)
+
+starts-finite-requires : tie.Need-starts-finite-requires
+starts-finite-requires c κs = search needs
+
+refused-at-once-requires-3 : tie.Need-refused-at-once-requires-3
+refused-at-once-requires-3 c κs = search needs
+
+returns-3 : tie.Need-returns-3
+unfolding answer
+returns-3 c = search (choices, not-true, not-false)
+
+checked-requires : tie.Need-checked-requires
+checked-requires c κs = search needs
 
 enum-known-checked : tie.Need-enum-known-checked
 enum-known-checked c = search needs
 
 found-by-requires : tie.Need-found-by-requires
-found-by-requires c κs = search checking
-
-after-look-requires : tie.Need-after-look-requires
-after-look-requires c κs = search needs
+found-by-requires c κs = search limit-kept
 
 enum-known-checked-2 : tie.Need-enum-known-checked-2
 enum-known-checked-2 c = search needs
 
-refused-requires : tie.Need-refused-requires
-refused-requires c κs = search needs
+refused-at-once-requires-4 : tie.Need-refused-at-once-requires-4
+refused-at-once-requires-4 c κs = search needs
 
-returns : tie.Need-returns
-returns c = search by-rule
+returns-4 : tie.Need-returns-4
+unfolding answer
+returns-4 c = search (choices, not-false, by-rule)
 
-returns-2 : tie.Need-returns-2
-returns-2 c = search by-refusal
+returns-5 : tie.Need-returns-5
+unfolding answer
+returns-5 c = search (choices, not-false, by-refusal)
 
 pub search-spec : {M : Type 1} → statement M
 search-spec =
     tie.close
     (tie.spec
-    check-requires
+    is-bad-count-requires
+    refused-at-once-requires
+    returns
+    all-finite-requires
+    refused-at-once-requires-2
+    returns-2
+    starts-finite-requires
+    refused-at-once-requires-3
+    returns-3
+    checked-requires
     enum-known-checked
     found-by-requires
-    after-look-requires
     enum-known-checked-2
-    refused-requires
-    returns
-    returns-2)
+    refused-at-once-requires-4
+    returns-4
+    returns-5)

@@ -1,6 +1,6 @@
-use Rattle.searching.specs.StepLaws.{found-first, missed-first}
+use Rattle.searching.specs.StepLaws.{steps}
 use Rattle.numerical.specs.TallyLaws.{room}
-use Rattle.secant.specs.Secant.{firstAt, opening}
+use Rattle.secant.specs.Secant.{opening}
 use borrow.Author.Needs.{needs}
 use Rattle.secant.proofs.opened.Statement.{statement}
 use Rattle.secant.proofs.opened.Tie as tie
@@ -8,21 +8,8 @@ use Rattle.secant.proofs.opened.Tie as tie
 valued-requires : tie.Need-valued-requires
 valued-requires c κs = search needs
 
-value-requires : tie.Need-value-requires
-value-requires c κs = search needs
-
-found-requires : tie.Need-found-requires
-found-requires c κs = search needs
-
-by-value-requires : tie.Need-by-value-requires
-by-value-requires c κs = search needs
-
-returns : tie.Need-returns
-unfolding opening firstAt
-returns c = search found-first
-
-kept-requires : tie.Need-kept-requires
-kept-requires c κs = search needs
+evaluate-requires : tie.Need-evaluate-requires
+evaluate-requires c κs = search needs
 
 enum-known-e : tie.Need-enum-known-e
 enum-known-e c = search needs
@@ -33,30 +20,26 @@ enum-told c = search needs
 ended-requires : tie.Need-ended-requires
 ended-requires c κs = search needs
 
-returns-2 : tie.Need-returns-2
+returns : tie.Need-returns
 unfolding opening
-returns-2 c = search missed-first
+returns c = search steps
 
 first-at-requires : tie.Need-first-at-requires
-first-at-requires c κs = (search (needs, room), search missed-first)
+first-at-requires c κs = search (needs, room)
 
-returns-3 : tie.Need-returns-3
+returns-2 : tie.Need-returns-2
 unfolding opening
-returns-3 c = search missed-first
+returns-2 c = search steps
 
 pub opened-spec : {M : Type 1} → statement M
 opened-spec =
     tie.close
     (tie.spec
     valued-requires
-    value-requires
-    found-requires
-    by-value-requires
-    returns
-    kept-requires
+    evaluate-requires
     enum-known-e
     enum-told
     ended-requires
-    returns-2
+    returns
     first-at-requires
-    returns-3)
+    returns-2)
