@@ -31,9 +31,9 @@ pub record Turns (S T : Type 0) : Type 0 where
 unfoldable pub runOf : {S : Type 0} → List Float → (S → Prog (Turned S)) → ℕ → S → Progress → Outcome
 runOf cs turn n s p = outcome (play tallied (oracle cs) (run turn n (next s)) p)
 
--- room for as many turns as a limit allows, and to spare: a turn adds at most three to a tally
+-- room for as many turns as a limit allows: a turn adds at most three to a tally
 abbrev pub Ample : Progress → Type 0
-Ample p = Room (5 * greatestLimit) p
+Ample p = Room (3 * greatestLimit) p
 
 -- after an opening there is room for all turns
 pub opened-room :
