@@ -1,6 +1,5 @@
 // The same calls through the proved archive and through the crate roots 0.0.8, as it is and made to tell as much, timed side by side.
 mod calls;
-mod least;
 mod sides;
 mod told;
 
@@ -62,13 +61,12 @@ struct Cell {
     derivatives: f64,
     passes: Vec<usize>,
     // Nanoseconds for all calls, by side: the least batch of all rounds.
-    least: [f64; 4],
+    least: [f64; 3],
 }
 
-fn sides_of(row: Row, method: Method) -> &'static [Side] {
-    match (row, method) {
-        (_, Method::Polynom) => &[Side::Proved, Side::Rust],
-        (Row::AtOnce, Method::Secant) => &[Side::Proved, Side::Rust, Side::Telling, Side::Least],
+fn sides_of(method: Method) -> &'static [Side] {
+    match method {
+        Method::Polynom => &[Side::Proved, Side::Rust],
         _ => &[Side::Proved, Side::Rust, Side::Telling],
     }
 }
@@ -87,7 +85,7 @@ impl Cell {
             values += tallies[1];
             derivatives += tallies[2];
         }
-        let passes = sides_of(row, method)
+        let passes = sides_of(method)
             .iter()
             .map(|side| {
                 let once = (0..5).map(|_| batch(*side, &calls, 4, expected) / 4.0).fold(f64::INFINITY, f64::min);
@@ -96,13 +94,13 @@ impl Cell {
             .collect();
         let n = calls.len() as f64;
         let (values, derivatives) = (values as f64 / n, derivatives as f64 / n);
-        Some(Cell { row, method, count, calls, expected, values, derivatives, passes, least: [f64::INFINITY; 4] })
+        Some(Cell { row, method, count, calls, expected, values, derivatives, passes, least: [f64::INFINITY; 3] })
     }
 
     // The sides in turn.
     fn round(&mut self) {
         for _ in 0..BATCHES {
-            for (i, side) in sides_of(self.row, self.method).iter().enumerate() {
+            for (i, side) in sides_of(self.method).iter().enumerate() {
                 let taken = batch(*side, &self.calls, self.passes[i], self.expected) / self.passes[i] as f64;
                 self.least[i] = self.least[i].min(taken);
             }
@@ -166,12 +164,14 @@ fn tables() {
             });
             println!("| {} | {} |", method.words(), words.join(" | "));
         }
-    }
-    println!("\n## The secant at its first start, by hand\n");
-    println!("| coefficients | by hand, ns | Rust, ns | ratio | proved, ns |\n|--:|--:|--:|--:|--:|");
-    for cell in cells.iter().filter(|cell| cell.row == Row::AtOnce && cell.method == Method::Secant) {
-        let (least, rust) = (cell.time(Side::Least), cell.time(Side::Rust));
-        println!("| {} | {least:.1} | {rust:.1} | {:.2} | {:.1} |", cell.count, least / rust, cell.time(Side::Proved));
+        println!("\n| proved / Rust telling | 1 | 2 | 4 | 8 | 16 |\n|---|--:|--:|--:|--:|--:|");
+        for method in METHODS.into_iter().filter(|method| *method != Method::Polynom) {
+            let words = COUNTS.map(|count| match of_row().find(|cell| cell.method == method && cell.count == count) {
+                Some(cell) => format!("{:.2}", cell.time(Side::Proved) / cell.time(Side::Telling)),
+                None => "-".to_string(),
+            });
+            println!("| {} | {} |", method.words(), words.join(" | "));
+        }
     }
 }
 
@@ -185,7 +185,6 @@ fn one_cell(words: &[String]) -> Option<()> {
         "proved" => Side::Proved,
         "rust" => Side::Rust,
         "telling" => Side::Telling,
-        "least" => Side::Least,
         _ => return None,
     };
     for _ in 0..passes.parse::<usize>().ok()? {
@@ -201,7 +200,7 @@ fn main() {
         None => tables(),
         Some("--cell") => {
             if one_cell(&words[1..]).is_none() {
-                fail("--cell search|at-once|refused METHOD COUNT proved|rust|telling|least PASSES");
+                fail("--cell search|at-once|refused METHOD COUNT proved|rust|telling PASSES");
             }
         }
         Some(_) => fail("bench [--cell ..]"),

@@ -2,7 +2,6 @@
 
 use crate::calls::{Call, Method};
 use crate::fail;
-use crate::least::{least, results};
 use crate::told::telling;
 use roots::{find_root_brent, find_root_newton_raphson, find_root_regula_falsi, find_root_secant};
 use roots::{Interval, Polynom, Sample, SearchError, SimpleConvergency};
@@ -14,8 +13,6 @@ pub enum Side {
     Rust,
     // The Rust made to tell what the proved side tells.
     Telling,
-    // By hand, and only what a call cannot do without.
-    Least,
 }
 
 // As include/roots.h says.
@@ -113,16 +110,6 @@ pub fn rust(call: &Call) -> Result<f64, SearchError> {
     rust_by(call.method, call)
 }
 
-// It answers the calls that end at the first start, and those only.
-fn by_hand_the_same(call: &Call, answer: &Answer) -> bool {
-    match results(call) {
-        Some((numbers, tallies)) => {
-            answer.kind == 0 && numbers.map(f64::to_bits) == answer.numbers.map(f64::to_bits) && tallies == answer.tallies
-        }
-        None => answer.kind != 0 || answer.tallies[1] > 1,
-    }
-}
-
 // Whether the Rust made to tell has the same kind, the same bits, and the same counts. It isn't asked of a step that nudges.
 fn tells_the_same(call: &Call, answer: &Answer) -> bool {
     let Some(told) = telling(call.method, call) else { return true };
@@ -165,9 +152,6 @@ pub fn checked(call: &Call) -> (u64, [u64; 4]) {
     if !tells_the_same(call, &answer) {
         fail(&format!("the Rust tells something else: {call:?}"));
     }
-    if call.method == Method::Secant && !by_hand_the_same(call, &answer) {
-        fail(&format!("what is written by hand tells something else: {call:?}"));
-    }
     (one, answer.tallies)
 }
 
@@ -195,11 +179,6 @@ fn summed_telling(calls: &[Call]) -> u64 {
     }
 }
 
-#[inline(never)]
-fn summed_least(calls: &[Call]) -> u64 {
-    calls.iter().fold(0, |sum: u64, call| sum.wrapping_add(least(call).unwrap_or(0)))
-}
-
 // The method is picked before the loop.
 #[inline(never)]
 fn summed_rust(calls: &[Call]) -> u64 {
@@ -223,6 +202,5 @@ pub fn summed(side: Side, calls: &[Call]) -> u64 {
         Side::Proved => summed_proved(calls),
         Side::Rust => summed_rust(calls),
         Side::Telling => summed_telling(calls),
-        Side::Least => summed_least(calls),
     }
 }

@@ -40,11 +40,14 @@ impl Convergency<f64> for Telling {
     }
 }
 
+// 1 to 5 in that order, before any evaluation, as the proved side has them.
 #[inline(always)]
 fn refusal(call: &Call, second: f64) -> u64 {
-    let count = call.coefficients().len();
-    if count == 0 || count > 16 {
+    let a = call.coefficients();
+    if a.is_empty() || a.len() > 16 {
         1
+    } else if a.iter().any(|c| !c.is_finite()) {
+        2
     } else if !call.first.is_finite() || !second.is_finite() {
         3
     } else if !call.eps.is_finite() || call.eps < 4.909093465297727e-91 {
@@ -56,27 +59,22 @@ fn refusal(call: &Call, second: f64) -> u64 {
     }
 }
 
-// 2 goes before 3 to 5 and before a 9 that a coefficient leads to.
-fn refused(a: &[f64], number: u64, tallies: [u64; 4]) -> Answer {
-    let looked = number != 1 && number != 6 && number != 7 && number != 8;
-    if looked && a.iter().any(|c| !c.is_finite()) {
-        return Answer { kind: 12, numbers: [0.0; 3], tallies: [0; 4] };
-    }
+fn refused(number: u64, tallies: [u64; 4]) -> Answer {
     Answer { kind: 10 + number, numbers: [0.0; 3], tallies }
 }
 
 #[inline(always)]
-fn told(a: &[f64], result: Result<f64, SearchError>, telling: Telling, counts: [u64; 2], finite: bool) -> Answer {
+fn told(result: Result<f64, SearchError>, telling: Telling, counts: [u64; 2], finite: bool) -> Answer {
     let tallies = [telling.steps, counts[0], counts[1], 0];
     if !finite {
-        return refused(a, 9, tallies);
+        return refused(9, tallies);
     }
     match (result, telling.last) {
         (Ok(root), Last::Value(value)) => Answer { kind: 0, numbers: [root, value, 0.0], tallies },
         (Ok(root), Last::Width(p, q)) => Answer { kind: 1, numbers: [root, p, q], tallies },
-        (Err(SearchError::NoBracketing), _) => refused(a, 6, tallies),
-        (Err(SearchError::ZeroDerivative), _) => refused(a, 7, tallies),
-        (Err(SearchError::NoConvergency), _) => refused(a, 8, tallies),
+        (Err(SearchError::NoBracketing), _) => refused(6, tallies),
+        (Err(SearchError::ZeroDerivative), _) => refused(7, tallies),
+        (Err(SearchError::NoConvergency), _) => refused(8, tallies),
     }
 }
 
@@ -88,7 +86,7 @@ macro_rules! by_values {
             let a = call.coefficients();
             let number = refusal(call, call.second);
             if number != 0 {
-                return refused(a, number, [0; 4]);
+                return refused(number, [0; 4]);
             }
             let (values, finite) = (Cell::new(0), Cell::new(true));
             let value = |x: f64| {
@@ -99,7 +97,7 @@ macro_rules! by_values {
             };
             let mut telling = Telling { eps: call.eps, limit: call.limit, steps: 0, last: Last::Value(0.0) };
             let result = $search(call.first, call.second, value, &mut telling);
-            told(a, result, telling, [values.get(), 0], finite.get())
+            told(result, telling, [values.get(), 0], finite.get())
         }
     };
 }
@@ -113,7 +111,7 @@ fn newton(call: &Call) -> Answer {
     let a = call.coefficients();
     let number = refusal(call, call.first);
     if number != 0 {
-        return refused(a, number, [0; 4]);
+        return refused(number, [0; 4]);
     }
     let (values, derivatives, finite) = (Cell::new(0), Cell::new(0), Cell::new(true));
     let value = |x: f64| {
@@ -130,7 +128,7 @@ fn newton(call: &Call) -> Answer {
     };
     let mut telling = Telling { eps: call.eps, limit: call.limit, steps: 0, last: Last::Value(0.0) };
     let result = find_root_newton_raphson(call.first, value, derivative, &mut telling);
-    told(a, result, telling, [values.get(), derivatives.get()], finite.get())
+    told(result, telling, [values.get(), derivatives.get()], finite.get())
 }
 
 #[inline(always)]

@@ -16,6 +16,21 @@ one-side x = go (above x) (below x) (λ t. le-no-lt nought x (lt→le nought x t
     go true false h = refl
     go false b h = refl
 
+-- The two tests as the code makes them: both above zero or both below; one above and one below.
+either-side : (p q r t : Bool) → p && q ≡ false → ((p && r) || (q && t)) ≡ cond p r (q && t)
+either-side true true r t e = absurd (true≢false e)
+either-side true false true t e = refl
+either-side true false false t e = refl
+either-side false q r t e = refl
+
+pub same-sides : (a b : Float) → ((above a && above b) || (below a && below b)) ≡ sameSign a b
+unfolding sameSign
+same-sides a b = either-side (above a) (below a) (above b) (below b) (one-side a)
+
+pub opposite-sides : (a b : Float) → ((above a && below b) || (below a && above b)) ≡ oppositeSign a b
+unfolding oppositeSign
+opposite-sides a b = either-side (above a) (below a) (below b) (above b) (one-side a)
+
 -- The order of the two does not matter.
 pub same-symmetric : (a b : Float) → sameSign a b ≡ sameSign b a
 unfolding sameSign

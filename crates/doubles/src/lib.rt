@@ -61,30 +61,18 @@ pub fn is_below(x: f64) -> bool
     x < 0.0
 }
 
-// Whether both are above zero, or both below.
+// Whether both are above zero, or both below. No test is branched on: the signs are as good as random.
 pub fn same_sign(a: f64, b: f64) -> bool
     ensures { λ r. ⌜ r ≡ sameSign a b ⌝ }
 {
-    if a > 0.0 {
-        b > 0.0
-    } else if a < 0.0 {
-        b < 0.0
-    } else {
-        false
-    }
+    (a > 0.0) & (b > 0.0) | (a < 0.0) & (b < 0.0)
 }
 
 // Whether one is above zero and the other below.
 pub fn opposite_sign(a: f64, b: f64) -> bool
     ensures { λ r. ⌜ r ≡ oppositeSign a b ⌝ }
 {
-    if a > 0.0 {
-        b < 0.0
-    } else if a < 0.0 {
-        b > 0.0
-    } else {
-        false
-    }
+    (a > 0.0) & (b < 0.0) | (a < 0.0) & (b > 0.0)
 }
 
 // The order number: the low 63 bits, negated if the sign bit is set; 0 for a NaN.
