@@ -3,6 +3,7 @@ use Prim.Native.Nat.{ℕ, _+_, _*_, _≤_}
 use native.Mathlib.Omega.{arith}
 use native.Mathlib.Nat.{mul-one, mul-zero, le-refl}
 use mathlib.Core.List.{List}
+use mathlib.Core.Bool.{Bool, true, false, not, _&&_, _||_}
 use mathlib.Core.Path.{_≡_, refl}
 use lib.Ieee.{Float, lt}
 use Rattle.numerical.specs.Answers.{outcome}
@@ -15,7 +16,7 @@ use Rattle.simple_convergency.specs.declared.StopRule.{StopRule}
 use Rattle.searching.specs.Programs.{rising, oracle, play, tallied}
 use Rattle.searching.specs.Bounds.{Within, More, within-done, within-test, within-stops, within-ruled, within-pulled, within-value, within-offered, within-bracketed, within-narrows, within-less, within-searches, answer-within}
 use Rattle.searching.specs.LoopLaws.{Turns, runOf, opened-ended, opened-next, Shown, shown-end, shown-go, seen-once}
-use Rattle.regula_falsi.specs.RegulaFalsi.{secondAt, firstAt, ordered, opening, pairOf, arrived, landed, pulledIn, turnFrom, illinoisProgram, regulaFalsi, seen}
+use Rattle.regula_falsi.specs.RegulaFalsi.{secondAt, firstAt, ordered, opening, pairOf, arrived, landed, pulledIn, turnFrom, illinoisProgram, regulaFalsi, seen, elsewhere}
 use Rattle.regula_falsi.specs.declared.Illinois.{Illinois}
 use Rattle.regula_falsi.specs.declared.To.{To}
 use Rattle.regula_falsi.specs.declared.To.the-variants.{Ended, Next}
@@ -83,3 +84,10 @@ shown stop (Next s) = shown-go s refl
 
 pub turn-once : (stop : StopRule) (x y : To) → seen x ≡ seen y → x ≡ y
 turn-once stop = seen-once (turns stop) (shown stop)
+
+-- the three tests together, as the code has them
+pub elsewhere-tests : (same first second : Bool) → ((same && not first) || (not same && (first || not second))) ≡ elsewhere same first second
+elsewhere-tests true true second = refl
+elsewhere-tests true false second = refl
+elsewhere-tests false true second = refl
+elsewhere-tests false false second = refl

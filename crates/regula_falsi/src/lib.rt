@@ -222,13 +222,8 @@ fn departs(s: Illinois, p: Sample) -> bool
 {
     let same = doubles::same_sign(p.y, s.left.at.y);
     let first = doubles::is_above(p.y * s.left.weight);
-    if same {
-        !first
-    } else if first {
-        true
-    } else {
-        !doubles::is_above(p.y * s.right.weight)
-    }
+    let second = doubles::is_above(p.y * s.right.weight);
+    same & !first | !same & (first | !second)
 }
 
 // The sample at the candidate is found, or the signs of the samples pick the end that it replaces. The products with the weights decide the mark alone.

@@ -1,4 +1,5 @@
 use Rattle.regula_falsi.specs.RegulaFalsi.{departs}
+use Rattle.regula_falsi.specs.RegulaFalsiLaws.{elsewhere-tests}
 use borrow.Author.Needs.{needs}
 use Rattle.regula_falsi.proofs.departs.Statement.{statement}
 use Rattle.regula_falsi.proofs.departs.Tie as tie
@@ -15,23 +16,10 @@ is-above-requires-2 c κs = search needs
 returns : tie.Need-returns
 unfolding departs
 returns c =
-    let asked = c .before in
-    rw (asked .is-above .ensures, ← asked .before .before .before .same-sign .ensures, c .if1 .taken)
-
-returns-2 : tie.Need-returns-2
-unfolding departs
-returns-2 c =
-    let asked = c .before .before in
-    rw (← asked .before .before .before .same-sign .ensures, c .before .if1 .left, ← asked .is-above .ensures, c .if2 .taken)
-
-returns-3 : tie.Need-returns-3
-unfolding departs
-returns-3 c =
-    let missed = c .before .before .before in
-    let asked = missed .before .before in
-    rw (c .is-above2 .ensures, ← asked .before .before .before .same-sign .ensures, missed .before .if1 .left, ← asked .is-above .ensures, missed .if2 .left)
+    let asked = c .before .before .before in
+    let same = asked .before .before .before in
+    rw (← same .same-sign .ensures, ← asked .is-above .ensures, ← c .is-above2 .ensures)
+    (elsewhere-tests (same .same-sign .result) (asked .is-above .result) (c .is-above2 .result))
 
 pub departs-spec : {M : Type 1} → statement M
-departs-spec =
-    tie.close
-    (tie.spec same-sign-requires is-above-requires is-above-requires-2 returns returns-2 returns-3)
+departs-spec = tie.close (tie.spec same-sign-requires is-above-requires is-above-requires-2 returns)
