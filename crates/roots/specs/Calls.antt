@@ -43,7 +43,7 @@ foundBy a stop (Secant first second) = secant a stop first second
 foundBy a stop (NewtonRaphson start) = newtonRaphson a stop start
 foundBy a stop (Polynom from to) = polynomSearch a stop from to
 
--- "4: eps isn't finite or is below 2^-300", "5: limit is above 400"
+-- 4: "eps isn't finite or is below 2^-300"; 5: "limit is above 400"
 abbrev pub foundUnder : List Float → Method → Checked → Outcome
 foundUnder a m (Rule stop) = foundBy a stop m
 foundUnder a m (Refused n) = refusedAtOnce n
