@@ -1,3 +1,5 @@
+use lib.Ieee.{binary64, mul}
+use Rattle.doubles.specs.Doubles.{above, sameSign}
 use Rattle.regula_falsi.specs.RegulaFalsi.{departs}
 use Rattle.regula_falsi.specs.RegulaFalsiLaws.{elsewhere-tests}
 use borrow.Author.Needs.{needs}
@@ -18,8 +20,12 @@ unfolding departs
 returns c =
     let asked = c .before .before .before in
     let same = asked .before .before .before in
-    rw (← same .same-sign .ensures, ← asked .is-above .ensures, ← c .is-above2 .ensures)
-    (elsewhere-tests (same .same-sign .result) (asked .is-above .result) (c .is-above2 .result))
+    let given = same .before .args in
+    rw (same .same-sign .ensures, asked .is-above .ensures, c .is-above2 .ensures)
+    (elsewhere-tests
+    (sameSign (given .p .y) (given .s .left .at .y))
+    (above (mul binary64 (given .p .y) (given .s .left .weight)))
+    (above (mul binary64 (given .p .y) (given .s .right .weight))))
 
 pub departs-spec : {M : Type 1} → statement M
 departs-spec = tie.close (tie.spec same-sign-requires is-above-requires is-above-requires-2 returns)
