@@ -53,6 +53,12 @@ fn plainly() -> String {
     format!("{told} {} {}", values.get(), derivatives.get())
 }
 
+// What docs/MIGRATING.md says of closures: x^2 - 3x + 1 summed from its highest power down, and in the order of polynom.rs.
+fn in_both_orders() -> String {
+    let root = |f: fn(f64) -> f64| roots::find_root_secant(0.0, 1.0, f, &mut 1e-15f64).map_or_else(|error| format!("{error:?}"), |x| x.to_string());
+    format!("{} {}", root(|x| x * x - 3.0 * x + 1.0), root(|x| 1.0 + -3.0 * x + x * x))
+}
+
 fn main() -> std::io::Result<()> {
     let trace = match std::env::args().skip(1).collect::<Vec<_>>().as_slice() {
         [] => false,
@@ -61,8 +67,12 @@ fn main() -> std::io::Result<()> {
             println!("{}", plainly());
             return Ok(());
         }
+        [option] if option == "--orders" => {
+            println!("{}", in_both_orders());
+            return Ok(());
+        }
         _ => {
-            eprintln!("usage: oracle [--trace] < calls, or oracle --plain");
+            eprintln!("usage: oracle [--trace] < calls, or oracle --plain or --orders");
             std::process::exit(2);
         }
     };
