@@ -4,16 +4,19 @@ use native.Mathlib.Numerals.{add-one}
 use native.Mathlib.Omega.{arith}
 use mathlib.Core.Bool.{false}
 use mathlib.Core.List.{List, [], _++_, append-assoc, append-nil}
-use mathlib.Core.Path.{_≡_, sym, ap, _∙_}
+use mathlib.Core.Path.{_≡_, refl, sym, ap, _∙_}
 use lib.ListN.{length, take, drop, set, length-set}
 use lib.Seq.{take-suc-set}
 use lib.Ieee.{Float, binary64, ofBits}
 use Rattle.line_text.specs.Digits.{wordOf}
 use Rattle.line_text.specs.Fields.{fieldOf, Field}
-use Rattle.line_text.specs.Calls.{past, allWords, doublesOf, FilledTo}
+use Rattle.line_text.specs.FieldLaws.{same-place}
+use Rattle.line_text.specs.Calls.{past, allWords, doublesOf, FilledTo, Filled}
 use Rattle.line_text.specs.declared.fields.Span.{Span}
 use Rattle.line_text.specs.declared.digits.Number.{Number}
 use Rattle.line_text.specs.declared.digits.Number.the-variants.{Is, Wrong}
+use Rattle.line_text.specs.declared.call.Place.{Place}
+use Rattle.line_text.specs.declared.call.Place.the-variants as place
 
 -- i of k doubles are read, and p is where they end
 pub record Filling (s : List ℕ) (at k : ℕ) (a : List Float) (p i : ℕ) : Type 0 where
@@ -85,3 +88,10 @@ fill-done s at k a p i g h =
 
     are-all : take i a ++ [] ≡ doublesOf k (drop at s)
     are-all = rw none-left at (g .are)
+
+-- one place, whatever stands in the arrays
+pub filled-fixed : (s : List ℕ) (at k : ℕ) (a b : List Float) (v w : Place) → Filled s at k a v → Filled s at k b w → v ≡ w
+filled-fixed s at k a b (place.At p) (place.At q) x y = ap place.At (same-place s p q (x .within) (y .within) (x .leaves ∙ sym (y .leaves)))
+filled-fixed s at k a b (place.At p) place.Wrong x y = cc
+filled-fixed s at k a b place.Wrong (place.At q) x y = cc
+filled-fixed s at k a b place.Wrong place.Wrong x y = refl

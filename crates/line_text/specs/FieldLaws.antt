@@ -2,12 +2,15 @@
 use Prim.Native.Nat.{ℕ, suc, _+_, _-_, _≤_, _<_}
 use native.Mathlib.Numerals.{add-one}
 use native.Mathlib.Omega.{arith}
+use mathlib.Core.Bool.{true, false}
 use mathlib.Core.List.{List, [], _∷_, _++_, append-assoc, append-nil}
 use mathlib.Core.Path.{_≡_, refl, sym, ap, _∙_}
+use lib.Dec.{eqb}
 use lib.ListN.{length, take, drop, getD, length-drop, drop-of-length-le}
-use lib.Seq.{drop-cons, take-suc, getD-drop}
+use lib.Seq.{drop-cons, take-suc, getD-drop, length-take-le}
 use borrow.Author.Tests.{eq-eqb, ne-eqb}
 use Rattle.line_text.specs.Fields.{skipped, untilSpace, fromSpace, fieldOf, restOf, Skipped, Ended, Field}
+use Rattle.line_text.specs.declared.fields.Span.{Span}
 
 -- nothing is left from the end on
 none : (s : List ℕ) (i : ℕ) → length s ≤ i → drop i s ≡ []
@@ -88,3 +91,35 @@ module _ (s : List ℕ) (at i : ℕ) (e : Ending s at i) where
 pub field-found : (s : List ℕ) (at from to : ℕ) → Skipped s at from → Ended s from to → Field s at (record { from = from; to = to })
 unfolding fieldOf restOf
 field-found s at from to a b = record { past = b .past; within = b .within; is = b .is ∙ ap untilSpace (a .is); leaves = b .leaves ∙ ap fromSpace (a .is) }
+
+-- ---- a field's length, and its place
+
+module _ {s : List ℕ} {at : ℕ} {f : Span} (j : Field s at f) where
+  field-length : length (fieldOf (drop at s)) ≡ f .to - f .from
+  field-length = sym (ap length (j .is)) ∙ length-take-le (f .to - f .from) (drop (f .from) s) (rw length-drop (let p = j .past in let w = j .within in omega arith))
+
+  pub no-field : f .to ≤ f .from → eqb (length (fieldOf (drop at s))) 0 ≡ true
+  no-field h = rw field-length (eq-eqb (f .to - f .from) 0 (omega arith))
+
+  pub some-field : f .from < f .to → eqb (length (fieldOf (drop at s))) 0 ≡ false
+  some-field h = rw field-length (ne-eqb (f .to - f .from) 0 (λ e. omega arith))
+
+-- what is left tells where it begins
+pub same-place : (s : List ℕ) (p q : ℕ) → p ≤ length s → q ≤ length s → drop p s ≡ drop q s → p ≡ q
+same-place s p q h k e =
+    let l : length s - p ≡ length s - q = sym (length-drop p s) ∙ ap length e ∙ length-drop q s in
+    omega arith
+
+pub field-fixed : {s : List ℕ} {at : ℕ} {f g : Span} → Field s at f → Field s at g → f ≡ g
+field-fixed {s} {at} {f} {g} x y = rw (begins, ends)
+  where
+    ends : f .to ≡ g .to
+    ends = same-place s (f .to) (g .to) (x .within) (y .within) (x .leaves ∙ sym (y .leaves))
+
+    begins : f .from ≡ g .from
+    begins =
+        let l : f .to - f .from ≡ g .to - g .from = sym (field-length x) ∙ field-length y in
+        let e = ends in
+        let p = x .past in
+        let q = y .past in
+        omega arith

@@ -9,6 +9,7 @@ use lib.ListN.{length, take, drop, getD, set, length-set, drop-of-length-le}
 use lib.Seq.{drop-cons, take-suc-set, length-take-le}
 use borrow.Author.Tests.{eq-eqb, ne-eqb, lt-ltb, le-ltb}
 use Rattle.line_text.specs.Texts.{lineReply, Put}
+use Rattle.line_text.specs.TextLaws.{put-front}
 use Rattle.line_text.specs.Inputs.{Line, grown, nextLine, replyAt, lineAfter, repliesTo, lineOf, Fine, Taken, Fed}
 use Rattle.line_text.specs.declared.input.State.{State}
 
@@ -39,7 +40,7 @@ module _ (line out : List ℕ) (s : State) (f : Fine line out s) (b : ℕ) where
       record {
         fine = record { kept = omega arith; waiting = omega arith };
         begun = rw (eq-eqb b 10 e, k, l);
-        replies = rw (eq-eqb b 10 e) (p .is);
+        replies = rw (eq-eqb b 10 e) (put-front p);
       }
 
   module _ (n : b ≡ 10 → ⊥) where

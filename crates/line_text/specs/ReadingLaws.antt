@@ -5,14 +5,15 @@ use mathlib.Core.Bool.{Bool, true, false, cond}
 use mathlib.Core.List.{List}
 use mathlib.Core.Path.{_≡_, refl, sym, ap, _∙_}
 use lib.Dec.{eqb}
-use lib.ListN.{length, take, drop, getD, length-drop}
+use lib.ListN.{length, take, drop, getD}
 use lib.Seq.{take-take, getD-take, length-take-le}
 use lib.Ieee.{Float, nan}
-use borrow.Author.Tests.{eq-eqb, ne-eqb, lt-ltb, le-ltb}
+use borrow.Author.Tests.{ne-eqb, lt-ltb, le-ltb}
 use Rattle.roots.specs.declared.Method.{Method}
 use Rattle.line_text.specs.Digits.{decimalOf}
 use Rattle.line_text.specs.Fields.{fieldOf, restOf, Field}
-use Rattle.line_text.specs.Calls.{allWords, past, FilledTo, Filled, methodNumber, startsOf, methodOf, Asked, no-call, limited, withLimit, doubles, withDoubles, counted, withCount, askedOf, Reads}
+use Rattle.line_text.specs.FieldLaws.{no-field, some-field}
+use Rattle.line_text.specs.Calls.{allWords, past, FilledTo, Filled, methodNumber, startsOf, methodOf, Asked, no-call, limited, withLimit, doubles, withDoubles, counted, withCount, askedOf, askedBy, Reads}
 use Rattle.line_text.specs.declared.fields.Span.{Span}
 use Rattle.line_text.specs.declared.digits.Number.{Number}
 use Rattle.line_text.specs.declared.digits.Number.the-variants.{Is, Wrong}
@@ -23,17 +24,7 @@ use Rattle.line_text.specs.declared.call.Reason.the-variants as reason
 use Rattle.line_text.specs.declared.call.Reading.{Reading}
 use Rattle.line_text.specs.declared.call.Reading.the-variants as reading
 
--- ---- a field's length, and a field that was read
-
-module _ {s : List ℕ} {at : ℕ} {f : Span} (j : Field s at f) where
-  field-length : length (fieldOf (drop at s)) ≡ f .to - f .from
-  field-length = sym (ap length (j .is)) ∙ length-take-le (f .to - f .from) (drop (f .from) s) (rw length-drop (let p = j .past in let w = j .within in omega arith))
-
-  pub no-field : f .to ≤ f .from → eqb (length (fieldOf (drop at s))) 0 ≡ true
-  no-field h = rw field-length (eq-eqb (f .to - f .from) 0 (omega arith))
-
-  pub some-field : f .from < f .to → eqb (length (fieldOf (drop at s))) 0 ≡ false
-  some-field h = rw field-length (ne-eqb (f .to - f .from) 0 (λ e. omega arith))
+-- ---- what is no call
 
 wrong : (asked : Asked) (a : List Float) (why : Reason) → asked ≡ no-call why → Reads asked a (reading.Wrong why)
 wrong asked a why e = record { within = omega arith; is = sym e }
@@ -150,3 +141,30 @@ module _ (s : List ℕ) (a : List Float) {f : Span} (j : Field s 0 f) where
     pub read-read : (m ≡ 0 → ⊥) → {r : Reading} → Reads (withCount m (drop (f .to) s)) a r → Reads (askedOf s) a r
     unfolding askedOf
     read-read q k = record { within = k .within; is = k .is ∙ sym (rw (some, the-method, ne-eqb m 0 q, j .leaves)) }
+
+-- ---- one reading
+
+-- whatever stands in the arrays behind the coefficients
+pub reads-fixed : (asked : Asked) (a b : List Float) (r q : Reading) → Reads asked a r → Reads asked b q → r ≡ q
+reads-fixed asked a b (reading.Call c) (reading.Call d) x y = rw (counts, e, f, g)
+  where
+    same : askedBy (reading.Call c) a ≡ askedBy (reading.Call d) b
+    same = x .is ∙ sym (y .is)
+
+    coefficients : take (c .count) a ≡ take (d .count) b
+    coefficients = cc
+
+    e : c .method ≡ d .method
+    e = cc
+
+    f : c .eps ≡ d .eps
+    f = cc
+
+    g : c .limit ≡ d .limit
+    g = cc
+
+    counts : c .count ≡ d .count
+    counts = sym (length-take-le (c .count) a (x .within)) ∙ ap length coefficients ∙ length-take-le (d .count) b (y .within)
+reads-fixed asked a b (reading.Call c) (reading.Wrong w) x y = cc
+reads-fixed asked a b (reading.Wrong v) (reading.Call d) x y = cc
+reads-fixed asked a b (reading.Wrong v) (reading.Wrong w) x y = cc
