@@ -20,6 +20,19 @@ module _ (s : List ℕ) (i : ℕ) (h : i < length s) where
   one-off : drop i s ≡ getD s i 0 ∷ drop (i + 1) s
   one-off = rw (add-one, drop-cons s i 0)
 
+  -- a part with one byte more
+  pub part-more : (from : ℕ) → from ≤ i → take (i + 1 - from) (drop from s) ≡ take (i - from) (drop from s) ++ (getD s i 0 ∷ [])
+  part-more from l = rw (counts, take-suc (drop from s) (i - from) 0 inside, getD-drop, here)
+    where
+      counts : i + 1 - from ≡ suc (i - from)
+      counts = omega arith
+
+      here : from + (i - from) ≡ i
+      here = omega arith
+
+      inside : i - from < length (drop from s)
+      inside = rw length-drop (omega arith)
+
 -- ---- spaces in front
 
 module _ (s : List ℕ) (at i : ℕ) (k : skipped (drop i s) ≡ skipped (drop at s)) where
@@ -50,23 +63,8 @@ module _ (s : List ℕ) (at i : ℕ) (e : Ending s at i) where
   pub end-on : i < length s → (getD s i 0 ≡ 32 → ⊥) → Ending s at (i + 1)
   end-on h n = record { past = omega arith; within = omega arith; is = longer ∙ e .is; leaves = sym (rw (one-off s i h, ne-eqb (getD s i 0) 32 n)) ∙ e .leaves }
     where
-      past-at : at ≤ i
-      past-at = e .past
-
-      counts : i + 1 - at ≡ suc (i - at)
-      counts = omega arith
-
-      here : at + (i - at) ≡ i
-      here = omega arith
-
-      inside : i - at < length (drop at s)
-      inside = rw length-drop (omega arith)
-
-      more : take (i + 1 - at) (drop at s) ≡ take (i - at) (drop at s) ++ (getD s i 0 ∷ [])
-      more = rw (counts, take-suc (drop at s) (i - at) 0 inside, getD-drop, here)
-
       longer : take (i + 1 - at) (drop at s) ++ untilSpace (drop (i + 1) s) ≡ take (i - at) (drop at s) ++ untilSpace (drop i s)
-      longer = rw (more, append-assoc, one-off s i h, ne-eqb (getD s i 0) 32 n)
+      longer = rw (part-more s i h at (e .past), append-assoc, one-off s i h, ne-eqb (getD s i 0) 32 n)
 
   pub end-stop : i < length s → getD s i 0 ≡ 32 → Ended s at i
   end-stop h n = record { past = e .past; within = e .within; is = kept ∙ e .is; leaves = left ∙ e .leaves }

@@ -174,7 +174,7 @@ module _ (n k : ℕ) (h : n < 2 ^ 64) (f : Fewest 16 16 n k) (d : List ℕ) (c :
 
 -- ---- an answer's line
 
-put-nothing : (a : List ℕ) (at : ℕ) → at ≤ length a → Put a at [] a at
+pub put-nothing : (a : List ℕ) (at : ℕ) → at ≤ length a → Put a at [] a at
 put-nothing a at h = record { within = h; ends = omega arith; is = sym (rw append-nil (take-append-drop at a)) }
 
 pub kind-refused : (answer : Answer) {n : ℕ} → answer ≡ Refused n → 10 + n ≡ kindOf answer

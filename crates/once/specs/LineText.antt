@@ -11,6 +11,7 @@ use Rattle.line_text.proofs.digits.number_in.Reads as number-in-reads
 use Rattle.line_text.proofs.digits.decimal.Reads as decimal-reads
 use Rattle.line_text.proofs.digits.word.Reads as word-reads
 use Rattle.line_text.proofs.fields.next.Reads as next-reads
+use Rattle.line_text.proofs.input.fed.Reads as fed-reads
 use Rattle.line_text.proofs.reply.put_line.Reads as put-line-reads
 use Rattle.line_text.proofs.text.put.Reads as put-reads
 use Rattle.line_text.proofs.text.put_byte.Reads as put-byte-reads
@@ -20,6 +21,7 @@ use Rattle.line_text.proofs.text.put_outcome.Reads as put-outcome-reads
 use Rattle.line_text.proofs.text.put_reason.Reads as put-reason-reads
 use Rattle.line_text.specs.CallLaws.{filled-fixed}
 use Rattle.line_text.specs.FieldLaws.{field-fixed}
+use Rattle.line_text.specs.InputLaws.{state-fixed, buffer-fixed, replies-fixed}
 use Rattle.line_text.specs.ReadingLaws.{reads-fixed}
 use Rattle.line_text.specs.TextLaws.{put-fixed}
 use Rattle.once.specs.One.{One, Last, fixed}
@@ -50,6 +52,17 @@ word-once = fixed _ _
 
 pub next-once : One next-reads.Learnt
 next-once k a x y e f p q = field-fixed p q
+
+-- ---- input: where a block is left, then the buffers `line` and `out`
+
+pub fed-once : One fed-reads.Learnt
+fed-once k a x y e f p q = rw (p .1 .0, q .1 .0, state-fixed (p .1 .0 ∙ sym (q .1 .0)) (p .0) (q .0))
+
+pub fed-line : Last {B = List ℕ} fed-reads.Learnt (λ k e. now (e .1 .1 .0))
+fed-line k a x y e f p q = buffer-fixed (p .1 .0 ∙ sym (q .1 .0)) (p .0) (q .0)
+
+pub fed-out : Last {B = List ℕ} fed-reads.Learnt (λ k e. now (e .1 .1 .1 .0))
+fed-out k a x y e f p q = replies-fixed (p .1 .0 ∙ sym (q .1 .0)) (p .0) (q .0)
 
 -- ---- reply: where it ends, then the buffer `out`
 
