@@ -1,8 +1,8 @@
--- Each public function of `line_text`: its contract allows one result, and one last value of each buffer, but for those
--- that docs/PROMISES.md lists.
+-- Each public function of `line_text`: its contract allows one result, and one last value of each buffer.
 use Prim.Native.Nat.{ℕ}
 use mathlib.Core.List.{List}
 use mathlib.Core.Path.{sym, _∙_}
+use lib.Ieee.{Float}
 use denote.Ref.{now}
 use Rattle.line_text.proofs.call.read_doubles.Reads as read-doubles-reads
 use Rattle.line_text.proofs.call.read.Reads as read-reads
@@ -19,20 +19,26 @@ use Rattle.line_text.proofs.text.put_decimal.Reads as put-decimal-reads
 use Rattle.line_text.proofs.text.put_double.Reads as put-double-reads
 use Rattle.line_text.proofs.text.put_outcome.Reads as put-outcome-reads
 use Rattle.line_text.proofs.text.put_reason.Reads as put-reason-reads
-use Rattle.line_text.specs.CallLaws.{filled-fixed}
+use Rattle.line_text.specs.CallLaws.{ends-fixed}
 use Rattle.line_text.specs.FieldLaws.{field-fixed}
 use Rattle.line_text.specs.InputLaws.{state-fixed, buffer-fixed, replies-fixed}
 use Rattle.line_text.specs.ReadingLaws.{reads-fixed}
 use Rattle.line_text.specs.TextLaws.{put-fixed}
 use Rattle.once.specs.One.{One, Last, fixed}
 
--- ---- call
+-- ---- call: what was read, then the array `a`
 
 pub read-doubles-once : One read-doubles-reads.Learnt
-read-doubles-once k a x y e f p q = filled-fixed _ _ _ _ _ x y p q
+read-doubles-once k a x y e f p q = ends-fixed _ _ _ x y (p .ends) (q .ends)
+
+pub read-doubles-array : Last {B = List Float} read-doubles-reads.Learnt (λ k e. now (e .1 .1 .1 .0))
+read-doubles-array k a x y e f p q = p .array ∙ sym (q .array)
 
 pub read-once : One read-reads.Learnt
-read-once k a x y e f p q = reads-fixed _ _ _ x y p q
+read-once k a x y e f p q = reads-fixed _ _ _ _ x y p q
+
+pub read-array : Last {B = List Float} read-reads.Learnt (λ k e. now (e .1 .0))
+read-array k a x y e f p q = p .array ∙ sym (q .array)
 
 -- ---- digits
 
