@@ -44,15 +44,24 @@ abbrev pub doublesOf : ℕ → List ℕ → List Float
 doublesOf zero t = []
 doublesOf (suc k) t = doubleOf (wordOf (fieldOf t)) ∷ doublesOf k (restOf t)
 
-pub record FilledTo (s : List ℕ) (at k : ℕ) (a : List Float) (p : ℕ) : Type 0 where
+-- a with the doubles of k fields in front, up to the first field that is none
+abbrev pub filledWith : ℕ → List ℕ → List Float → List Float
+filledWith zero t a = a
+filledWith (suc k) t [] = []
+filledWith (suc k) t (x ∷ a) = cond (isNumber (wordOf (fieldOf t))) (doubleOf (wordOf (fieldOf t)) ∷ filledWith k (restOf t) a) (x ∷ a)
+
+pub record EndsAt (s : List ℕ) (at k p : ℕ) : Type 0 where
   pub within : p ≤ length s
   pub all : allWords k (drop at s) ≡ true
-  pub are : take k a ≡ doublesOf k (drop at s)
   pub leaves : drop p s ≡ past k (drop at s)
 
-abbrev pub Filled : List ℕ → ℕ → ℕ → List Float → Place → Type 0
-Filled s at k a (place.At p) = FilledTo s at k a p
-Filled s at k a place.Wrong = allWords k (drop at s) ≡ false
+abbrev pub Ends : List ℕ → ℕ → ℕ → Place → Type 0
+Ends s at k (place.At p) = EndsAt s at k p
+Ends s at k place.Wrong = allWords k (drop at s) ≡ false
+
+pub record Filled (s : List ℕ) (at k : ℕ) (before a : List Float) (r : Place) : Type 0 where
+  pub ends : Ends s at k r
+  pub array : a ≡ filledWith k (drop at s) before
 
 -- ---- the method
 
@@ -113,6 +122,21 @@ askedOf t =
     (no-call reason.Empty)
     (cond (eqb (methodNumber (fieldOf t)) 0) (no-call reason.Method) (withCount (methodNumber (fieldOf t)) (restOf t)))
 
+-- ---- what the array then holds: it is written where the method and the count are right
+
+abbrev pub due : ℕ → Number → ℕ
+due m (Is n) = cond (ltb 40 n) 0 (doubles m n)
+due m Wrong = 0
+
+unfoldable pub countFills : ℕ → List ℕ → List Float → List Float
+countFills m t a = filledWith (due m (decimalOf (fieldOf t))) (restOf t) a
+
+unfoldable pub lineFills : List ℕ → List Float → List Float
+lineFills t a =
+    cond (eqb (length (fieldOf t)) 0)
+    a
+    (cond (eqb (methodNumber (fieldOf t)) 0) a (countFills (methodNumber (fieldOf t)) (restOf t) a))
+
 -- ---- what the code read, with the coefficients in a
 
 abbrev pub countOf : Reading → ℕ
@@ -123,6 +147,7 @@ abbrev pub askedBy : Reading → List Float → Asked
 askedBy (reading.Call c) a = call (take (c .count) a) (c .method) (c .eps) (c .limit)
 askedBy (reading.Wrong r) a = no-call r
 
-pub record Reads (asked : Asked) (a : List Float) (r : Reading) : Type 0 where
+pub record Reads (asked : Asked) (filled a : List Float) (r : Reading) : Type 0 where
   pub within : countOf r ≤ length a
   pub is : askedBy r a ≡ asked
+  pub array : a ≡ filled

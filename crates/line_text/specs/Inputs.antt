@@ -1,11 +1,11 @@
 -- The input as lines, and the replies to them. Definitions, and what the contracts of the program say of its state.
-use Prim.Native.Nat.{ℕ, _≤_}
+use Prim.Native.Nat.{ℕ, _+_, _-_, _≤_}
 use mathlib.Core.Bool.{Bool, true, false, cond}
 use mathlib.Core.List.{List, [], _∷_, _++_}
 use mathlib.Core.Path.{_≡_}
 use lib.Dec.{eqb, ltb}
-use lib.ListN.{length, take, drop}
-use Rattle.line_text.specs.Texts.{lineReply}
+use lib.ListN.{length, take, drop, set}
+use Rattle.line_text.specs.Texts.{lineReply, Put}
 use Rattle.line_text.specs.declared.input.State.{State}
 
 -- a line that has begun: what is kept of it, and whether there was more
@@ -39,6 +39,19 @@ abbrev pub repliesTo : ℕ → Line → List ℕ → List ℕ
 repliesTo most l [] = []
 repliesTo most l (b ∷ t) = replyAt l b ++ repliesTo most (nextLine most l b) t
 
+-- what the line's buffer holds: a byte stands behind those that are kept, and nothing is wiped out
+unfoldable pub stored : List ℕ → Line → ℕ → List ℕ
+stored line l b = cond (eqb b 10) line (set line (length (l .text)) b)
+
+abbrev pub bufferAfter : ℕ → List ℕ → Line → List ℕ → List ℕ
+bufferAfter most line l [] = line
+bufferAfter most line l (b ∷ t) = bufferAfter most (stored line l b) (nextLine most l b) t
+
+-- how many of the bytes t are taken while w bytes of replies wait: all, or those up to a reply with which more than `full` wait
+abbrev pub countTaken : ℕ → ℕ → Line → ℕ → List ℕ → ℕ
+countTaken most full l w [] = 0
+countTaken most full l w (b ∷ t) = cond (ltb full (w + length (replyAt l b))) 1 (1 + countTaken most full (nextLine most l b) (w + length (replyAt l b)) t)
+
 -- ---- a program's state
 
 -- the line that has begun, in its buffer
@@ -60,18 +73,22 @@ pub record Idle (line out : List ℕ) (s : State) : Type 0 where
 pub record Taken (line out : List ℕ) (s : State) (b : ℕ) (line′ out′ : List ℕ) (r : State) : Type 0 where
   pub fine : Fine line′ out′ r
   pub begun : lineOf line′ r ≡ nextLine (length line) (lineOf line s) b
-  pub replies : take (r .waiting) out′ ≡ take (s .waiting) out ++ replyAt (lineOf line s) b
+  pub buffer : line′ ≡ stored line (lineOf line s) b
+  pub replies : Put out (s .waiting) (replyAt (lineOf line s) b) out′ (r .waiting)
 
 -- a block was answered: if it could be, the line that has begun is the one behind it
 abbrev pub Begun : List ℕ → List ℕ → State → List ℕ → Bool → State → Type 0
 Begun block line s line′ answered r = answered ≡ true → lineOf line′ r ≡ lineAfter (length line) (lineOf line s) block
 
--- the bytes of a block were taken up to i: with what the others will do, it comes to the same line and the same replies
+-- where a block is left: another reply has to find room
+abbrev pub stopsAt : List ℕ → ℕ → List ℕ → List ℕ → State → ℕ
+stopsAt block from line out s = from + countTaken (length line) (length out - 156) (lineOf line s) (s .waiting) (drop from block)
+
+-- the bytes of a block from an index on were taken, up to i
 pub record Fed (block : List ℕ) (from : ℕ) (line out : List ℕ) (s : State) (i : ℕ) (line′ out′ : List ℕ) (r : State) : Type 0 where
   pub past : from ≤ i
   pub within : i ≤ length block
   pub fine : Fine line′ out′ r
-  pub begun : lineAfter (length line) (lineOf line′ r) (drop i block) ≡ lineAfter (length line) (lineOf line s) (drop from block)
-  pub replies :
-      take (r .waiting) out′ ++ repliesTo (length line) (lineOf line′ r) (drop i block)
-      ≡ take (s .waiting) out ++ repliesTo (length line) (lineOf line s) (drop from block)
+  pub begun : lineOf line′ r ≡ lineAfter (length line) (lineOf line s) (take (i - from) (drop from block))
+  pub buffer : line′ ≡ bufferAfter (length line) line (lineOf line s) (take (i - from) (drop from block))
+  pub replies : Put out (s .waiting) (repliesTo (length line) (lineOf line s) (take (i - from) (drop from block))) out′ (r .waiting)

@@ -5,14 +5,16 @@ use mathlib.Core.Bool.{Bool, true, false, cond}
 use mathlib.Core.List.{List}
 use mathlib.Core.Path.{_≡_, refl, sym, ap, _∙_}
 use lib.Dec.{eqb}
-use lib.ListN.{length, take, drop, getD, length-drop}
+use lib.ListN.{length, take, drop, getD}
 use lib.Seq.{take-take, getD-take, length-take-le}
 use lib.Ieee.{Float, nan}
-use borrow.Author.Tests.{eq-eqb, ne-eqb, lt-ltb, le-ltb}
+use borrow.Author.Tests.{ne-eqb, lt-ltb, le-ltb}
 use Rattle.roots.specs.declared.Method.{Method}
 use Rattle.line_text.specs.Digits.{decimalOf}
 use Rattle.line_text.specs.Fields.{fieldOf, restOf, Field}
-use Rattle.line_text.specs.Calls.{allWords, past, FilledTo, Filled, methodNumber, startsOf, methodOf, Asked, no-call, limited, withLimit, doubles, withDoubles, counted, withCount, askedOf, Reads}
+use Rattle.line_text.specs.FieldLaws.{no-field, some-field}
+use Rattle.line_text.specs.Calls.{allWords, doublesOf, filledWith, EndsAt, Filled, methodNumber, startsOf, methodOf, Asked, no-call, limited, withLimit, doubles, withDoubles, counted, withCount, askedOf, due, countFills, lineFills, askedBy, Reads}
+use Rattle.line_text.specs.CallLaws.{filled-front}
 use Rattle.line_text.specs.declared.fields.Span.{Span}
 use Rattle.line_text.specs.declared.digits.Number.{Number}
 use Rattle.line_text.specs.declared.digits.Number.the-variants.{Is, Wrong}
@@ -23,20 +25,10 @@ use Rattle.line_text.specs.declared.call.Reason.the-variants as reason
 use Rattle.line_text.specs.declared.call.Reading.{Reading}
 use Rattle.line_text.specs.declared.call.Reading.the-variants as reading
 
--- ---- a field's length, and a field that was read
+-- ---- what is no call
 
-module _ {s : List ℕ} {at : ℕ} {f : Span} (j : Field s at f) where
-  field-length : length (fieldOf (drop at s)) ≡ f .to - f .from
-  field-length = sym (ap length (j .is)) ∙ length-take-le (f .to - f .from) (drop (f .from) s) (rw length-drop (let p = j .past in let w = j .within in omega arith))
-
-  pub no-field : f .to ≤ f .from → eqb (length (fieldOf (drop at s))) 0 ≡ true
-  no-field h = rw field-length (eq-eqb (f .to - f .from) 0 (omega arith))
-
-  pub some-field : f .from < f .to → eqb (length (fieldOf (drop at s))) 0 ≡ false
-  some-field h = rw field-length (ne-eqb (f .to - f .from) 0 (λ e. omega arith))
-
-wrong : (asked : Asked) (a : List Float) (why : Reason) → asked ≡ no-call why → Reads asked a (reading.Wrong why)
-wrong asked a why e = record { within = omega arith; is = sym e }
+wrong : (asked : Asked) (filled a : List Float) (why : Reason) → asked ≡ no-call why → a ≡ filled → Reads asked filled a (reading.Wrong why)
+wrong asked filled a why e q = record { within = omega arith; is = sym e; array = q }
 
 -- ---- the limit
 
@@ -45,15 +37,15 @@ module _ (s : List ℕ) (at m n : ℕ) (a : List Float) {f : Span} (j : Field s 
   unfolding withLimit
   the-limit = rw (j .leaves, e, j .is)
 
-  pub limit-wrong : d ≡ Wrong → Reads (withLimit m n a (drop at s)) a (reading.Wrong reason.Limit)
-  limit-wrong q = wrong (withLimit m n a (drop at s)) a reason.Limit (the-limit ∙ rw q)
+  pub limit-wrong : d ≡ Wrong → Reads (withLimit m n a (drop at s)) a a (reading.Wrong reason.Limit)
+  limit-wrong q = wrong (withLimit m n a (drop at s)) a a reason.Limit (the-limit ∙ rw q) refl
 
   module _ {l : ℕ} (q : d ≡ Is l) {g : Span} (k : Field s (f .to) g) where
-    pub limit-trailing : g .from < g .to → Reads (withLimit m n a (drop at s)) a (reading.Wrong reason.Trailing)
-    limit-trailing h = wrong (withLimit m n a (drop at s)) a reason.Trailing (the-limit ∙ rw (q, some-field k h))
+    pub limit-trailing : g .from < g .to → Reads (withLimit m n a (drop at s)) a a (reading.Wrong reason.Trailing)
+    limit-trailing h = wrong (withLimit m n a (drop at s)) a a reason.Trailing (the-limit ∙ rw (q, some-field k h)) refl
 
-    pub limit-read : {method : Method} {k : ℕ} → g .to ≤ g .from → n + 3 ≤ length a → method ≡ methodOf m (getD a n nan) (getD a (n + 1) nan) → k ≡ startsOf m → Reads (withLimit m n a (drop at s)) a (reading.Call (record { method = method; count = n; eps = getD a (n + k) nan; limit = l }))
-    limit-read h b x y = record { within = omega arith; is = rw (x, y) (sym (the-limit ∙ rw (q, no-field k h))) }
+    pub limit-read : {method : Method} {k : ℕ} → g .to ≤ g .from → n + 3 ≤ length a → method ≡ methodOf m (getD a n nan) (getD a (n + 1) nan) → k ≡ startsOf m → Reads (withLimit m n a (drop at s)) a a (reading.Call (record { method = method; count = n; eps = getD a (n + k) nan; limit = l }))
+    limit-read h b x y = record { within = omega arith; is = rw (x, y) (sym (the-limit ∙ rw (q, no-field k h))); array = refl }
 
 -- ---- the doubles
 
@@ -87,30 +79,34 @@ module _ (m n : ℕ) (a : List Float) (k : ℕ) (t : List ℕ) where
       go (Is l) = rw (coefficients, at-start, at-next, at-eps)
       go Wrong = refl
 
-pub filled-within : (s : List ℕ) (at k : ℕ) (a : List Float) {w : Place} {p : ℕ} → Filled s at k a w → w ≡ place.At p → p ≤ length s
-filled-within s at k a {w} {p} g q = filled .within
-  where
-    filled : FilledTo s at k a p
-    filled = rw q at g
+module _ (s : List ℕ) (at k : ℕ) (before a : List Float) {w : Place} {p : ℕ} (g : Filled s at k before a w) (q : w ≡ place.At p) where
+  filled-to : EndsAt s at k p
+  filled-to = (rw q at g) .ends
 
-module _ (s : List ℕ) (at m n : ℕ) (a : List Float) {k : ℕ} (e : k ≡ startsOf m) {w : Place} (g : Filled s at (n + k + 1) a w) where
-  pub doubles-wrong : w ≡ place.Wrong → Reads (withDoubles m n (drop at s)) a (reading.Wrong reason.Number)
+  pub filled-within : p ≤ length s
+  filled-within = filled-to .within
+
+module _ (s : List ℕ) (at m n : ℕ) (before a : List Float) {k : ℕ} (e : k ≡ startsOf m) {w : Place} (g : Filled s at (n + k + 1) before a w) where
+  pub doubles-wrong : w ≡ place.Wrong → Reads (withDoubles m n (drop at s)) (filledWith (doubles m n) (drop at s) before) a (reading.Wrong reason.Number)
   unfolding withDoubles
-  doubles-wrong q = wrong (withDoubles m n (drop at s)) a reason.Number (rw (← e, none))
+  doubles-wrong q = wrong (withDoubles m n (drop at s)) (filledWith (doubles m n) (drop at s) before) a reason.Number (rw (← e, none)) (rw (← e) (g .array))
     where
       none : allWords (n + k + 1) (drop at s) ≡ false
-      none = rw q at g
+      none = (rw q at g) .ends
 
-  module _ {p : ℕ} (q : w ≡ place.At p) where
-    filled : FilledTo s at (n + k + 1) a p
-    filled = rw q at g
+  module _ {p : ℕ} (q : w ≡ place.At p) (h : n ≤ 40) (c : k ≤ 2) (l : 43 ≤ length before) where
+    ends : EndsAt s at (n + k + 1) p
+    ends = filled-to s at (n + k + 1) before a g q
 
-    pub doubles-read : {r : Reading} → Reads (withLimit m n a (drop p s)) a r → Reads (withDoubles m n (drop at s)) a r
+    front : take (n + k + 1) a ≡ doublesOf (n + k + 1) (drop at s)
+    front = ap (λ (b : List Float). take (n + k + 1) b) (g .array) ∙ filled-front (n + k + 1) (drop at s) before (omega arith) (ends .all)
+
+    pub doubles-read : {r : Reading} → Reads (withLimit m n a (drop p s)) a a r → Reads (withDoubles m n (drop at s)) (filledWith (doubles m n) (drop at s) before) a r
     unfolding withDoubles
-    doubles-read {r} h = record { within = h .within; is = h .is ∙ same }
+    doubles-read {r} x = record { within = x .within; is = x .is ∙ same; array = rw (← e) (g .array) }
       where
         same : withLimit m n a (drop p s) ≡ withDoubles m n (drop at s)
-        same = first-ones m n a (n + k + 1) (drop p s) (rw e) ∙ rw (← e, filled .all, filled .are, filled .leaves)
+        same = first-ones m n a (n + k + 1) (drop p s) (rw e) ∙ rw (← e, ends .all, front, ends .leaves)
 
 -- ---- the count
 
@@ -119,22 +115,29 @@ module _ (s : List ℕ) (at m : ℕ) (a : List Float) {f : Span} (j : Field s at
   unfolding withCount
   the-count = rw (j .leaves, e, j .is)
 
-  pub count-wrong : d ≡ Wrong → Reads (withCount m (drop at s)) a (reading.Wrong reason.Count)
-  count-wrong q = wrong (withCount m (drop at s)) a reason.Count (the-count ∙ rw q)
+  the-doubles : filledWith (due m d) (drop (f .to) s) a ≡ countFills m (drop at s) a
+  unfolding countFills
+  the-doubles = rw (j .leaves, e, j .is)
+
+  no-count : counted m d (drop (f .to) s) ≡ no-call reason.Count → due m d ≡ 0 → Reads (withCount m (drop at s)) (countFills m (drop at s) a) a (reading.Wrong reason.Count)
+  no-count q z = wrong (withCount m (drop at s)) (countFills m (drop at s) a) a reason.Count (the-count ∙ q) (sym (rw z) ∙ the-doubles)
+
+  pub count-wrong : d ≡ Wrong → Reads (withCount m (drop at s)) (countFills m (drop at s) a) a (reading.Wrong reason.Count)
+  count-wrong q = no-count (rw q) (rw q)
 
   module _ {n : ℕ} (q : d ≡ Is n) where
-    pub count-large : 40 < n → Reads (withCount m (drop at s)) a (reading.Wrong reason.Count)
-    count-large h = wrong (withCount m (drop at s)) a reason.Count (the-count ∙ rw (q, lt-ltb 40 n h))
+    pub count-large : 40 < n → Reads (withCount m (drop at s)) (countFills m (drop at s) a) a (reading.Wrong reason.Count)
+    count-large h = no-count (rw (q, lt-ltb 40 n h)) (rw (q, lt-ltb 40 n h))
 
-    pub count-read : n ≤ 40 → {r : Reading} → Reads (withDoubles m n (drop (f .to) s)) a r → Reads (withCount m (drop at s)) a r
-    count-read h k = record { within = k .within; is = k .is ∙ sym (the-count ∙ rw (q, le-ltb 40 n h)) }
+    pub count-read : n ≤ 40 → {b : List Float} {r : Reading} → Reads (withDoubles m n (drop (f .to) s)) (filledWith (doubles m n) (drop (f .to) s) a) b r → Reads (withCount m (drop at s)) (countFills m (drop at s) a) b r
+    count-read h k = record { within = k .within; is = k .is ∙ sym (the-count ∙ rw (q, le-ltb 40 n h)); array = k .array ∙ sym (rw (q, le-ltb 40 n h)) ∙ the-doubles }
 
 -- ---- the method, at the start of the line
 
 module _ (s : List ℕ) (a : List Float) {f : Span} (j : Field s 0 f) where
-  pub read-empty : f .from ≡ f .to → Reads (askedOf s) a (reading.Wrong reason.Empty)
-  unfolding askedOf
-  read-empty h = wrong (askedOf s) a reason.Empty (rw (no-field j (omega arith)))
+  pub read-empty : f .from ≡ f .to → Reads (askedOf s) (lineFills s a) a (reading.Wrong reason.Empty)
+  unfolding askedOf lineFills
+  read-empty h = wrong (askedOf s) (lineFills s a) a reason.Empty (rw (no-field j (omega arith))) (rw (no-field j (omega arith)))
 
   module _ (h : f .from ≡ f .to → ⊥) {m : ℕ} (e : m ≡ methodNumber (take (f .to - f .from) (drop (f .from) s))) where
     some : eqb (length (fieldOf s)) 0 ≡ false
@@ -143,10 +146,41 @@ module _ (s : List ℕ) (a : List Float) {f : Span} (j : Field s 0 f) where
     the-method : methodNumber (fieldOf s) ≡ m
     the-method = sym (e ∙ ap methodNumber (j .is))
 
-    pub read-no-method : m ≡ 0 → Reads (askedOf s) a (reading.Wrong reason.Method)
-    unfolding askedOf
-    read-no-method q = wrong (askedOf s) a reason.Method (rw (some, the-method, q))
+    pub read-no-method : m ≡ 0 → Reads (askedOf s) (lineFills s a) a (reading.Wrong reason.Method)
+    unfolding askedOf lineFills
+    read-no-method q = wrong (askedOf s) (lineFills s a) a reason.Method (rw (some, the-method, q)) (rw (some, the-method, q))
 
-    pub read-read : (m ≡ 0 → ⊥) → {r : Reading} → Reads (withCount m (drop (f .to) s)) a r → Reads (askedOf s) a r
-    unfolding askedOf
-    read-read q k = record { within = k .within; is = k .is ∙ sym (rw (some, the-method, ne-eqb m 0 q, j .leaves)) }
+    pub read-read : (m ≡ 0 → ⊥) → {b : List Float} {r : Reading} → Reads (withCount m (drop (f .to) s)) (countFills m (drop (f .to) s) a) b r → Reads (askedOf s) (lineFills s a) b r
+    unfolding askedOf lineFills
+    read-read q k =
+        record {
+          within = k .within;
+          is = k .is ∙ sym (rw (some, the-method, ne-eqb m 0 q, j .leaves));
+          array = k .array ∙ sym (rw (some, the-method, ne-eqb m 0 q, j .leaves));
+        }
+
+-- ---- one reading
+
+pub reads-fixed : (asked : Asked) (filled a b : List Float) (r q : Reading) → Reads asked filled a r → Reads asked filled b q → r ≡ q
+reads-fixed asked filled a b (reading.Call c) (reading.Call d) x y = rw (counts, e, f, g)
+  where
+    same : askedBy (reading.Call c) a ≡ askedBy (reading.Call d) b
+    same = x .is ∙ sym (y .is)
+
+    coefficients : take (c .count) a ≡ take (d .count) b
+    coefficients = cc
+
+    e : c .method ≡ d .method
+    e = cc
+
+    f : c .eps ≡ d .eps
+    f = cc
+
+    g : c .limit ≡ d .limit
+    g = cc
+
+    counts : c .count ≡ d .count
+    counts = sym (length-take-le (c .count) a (x .within)) ∙ ap length coefficients ∙ length-take-le (d .count) b (y .within)
+reads-fixed asked filled a b (reading.Call c) (reading.Wrong w) x y = cc
+reads-fixed asked filled a b (reading.Wrong v) (reading.Call d) x y = cc
+reads-fixed asked filled a b (reading.Wrong v) (reading.Wrong w) x y = cc

@@ -38,8 +38,8 @@ module _ (s : List ℕ) where
 pub count-of-part : (n : ℕ) (s : List ℕ) → n ≤ length s → n ≡ length (take n s)
 count-of-part n s h = sym (length-take-le n s h)
 
-module _ (asked : Asked) (a : List Float) {r : Reading} {c : Call} (k : Reads asked a r) (e : r ≡ reading.Call c) where
-  called : Reads asked a (reading.Call c)
+module _ (asked : Asked) {filled : List Float} (a : List Float) {r : Reading} {c : Call} (k : Reads asked filled a r) (e : r ≡ reading.Call c) where
+  called : Reads asked filled a (reading.Call c)
   called = rw e at k
 
   pub count-within : c .count ≤ length a
@@ -50,7 +50,7 @@ module _ (asked : Asked) (a : List Float) {r : Reading} {c : Call} (k : Reads as
 
 -- ---- what was read, and its reply
 
-module _ (s t : List ℕ) (a : List Float) {r : Reading} (k : Reads (askedOf t) a r) (w : t ≡ trimmed s) where
+module _ (s t : List ℕ) {filled : List Float} (a : List Float) {r : Reading} (k : Reads (askedOf t) filled a r) (w : t ≡ trimmed s) where
   replies : replied (askedBy r a) ≡ replyTo s
   unfolding replyTo
   replies = rw (k .is, w)

@@ -5,8 +5,8 @@ use native.Mathlib.Omega.{arith}
 use mathlib.Core.List.{List, [], _∷_, _++_, append-assoc, append-nil}
 use mathlib.Core.Path.{_≡_, refl, sym, ap, _∙_}
 use mathlib.Core.Logic.{inl, inr}
-use lib.ListN.{length, take, getD, set, length-append, length-set}
-use lib.Seq.{paste, paste-zero, paste-suc, take-paste, take-suc-set, take-length}
+use lib.ListN.{length, take, drop, getD, set, length-append, length-set, take-append-drop}
+use lib.Seq.{paste, paste-zero, paste-suc, take-length, length-take-le, take-at, drop-at, drop-drop, set-split, append-snoc}
 use native.Mathlib.Nat.{pow-suc, pow-le-pow-right, eq-zero-or-pos, div-lt-iff-lt-mul, le-div-iff-mul-le}
 use borrow.Author.Tests.{lt-ltb, le-ltb}
 use Rattle.io.specs.Digits.{digits, Fewest}
@@ -42,7 +42,7 @@ module _ (before : List ℕ) (at : ℕ) (t : List ℕ) where
         pasted = rw (c .is, add-one i) (paste-suc before at t i 0 (let r = room in omega arith) h)
 
     pub copy-done : length t ≤ i → Put before at t now (at + i)
-    copy-done h = record { ends = ap (λ (k : ℕ). at + k) whole; is = rw (c .is) (take-paste before at t i (let r = room in omega arith) (c .count)) ∙ ap (λ (l : List ℕ). take at before ++ l) all }
+    copy-done h = record { within = let r = room in omega arith; ends = ap (λ (k : ℕ). at + k) whole; is = c .is ∙ rw all }
       where
         whole : i ≡ length t
         whole = let n = c .count in omega arith
@@ -50,17 +50,37 @@ module _ (before : List ℕ) (at : ℕ) (t : List ℕ) where
         all : take i t ≡ t
         all = ap (λ (k : ℕ). take k t) whole ∙ take-length t
 
+-- ---- the parts of a buffer
+
+module _ {a : List ℕ} {at : ℕ} {t b : List ℕ} {r : ℕ} (x : Put a at t b r) where
+  front-length : length (take at a ++ t) ≡ r
+  front-length = length-append (take at a) t ∙ ap (λ (k : ℕ). k + length t) (length-take-le at a (x .within)) ∙ sym (x .ends)
+
+  pub put-front : take r b ≡ take at a ++ t
+  put-front = rw (x .is) (take-at (take at a ++ t) (drop r a) r front-length)
+
+  pub put-leaves : drop r b ≡ drop r a
+  put-leaves = rw (x .is) (drop-at (take at a ++ t) (drop r a) r front-length)
+
+  -- nothing of it is left open
+  pub put-fixed : {c : List ℕ} {q : ℕ} → Put a at t c q → b ≡ c
+  put-fixed {c} {q} y = x .is ∙ ap (λ (k : ℕ). take at a ++ t ++ drop k a) (x .ends ∙ sym (y .ends)) ∙ sym (y .is)
+
 -- ---- one text behind another
 
 pub put-both : {a b c : List ℕ} {at p r : ℕ} {t u : List ℕ} → Put a at t b p → Put b p u c r → Put a at (t ++ u) c r
 put-both {a} {b} {c} {at} {p} {r} {t} {u} x y =
     record {
+      within = x .within;
       ends = rw length-append (let e = x .ends in let f = y .ends in omega arith);
-      is = y .is ∙ ap (λ (l : List ℕ). l ++ u) (x .is) ∙ append-assoc (take at a) t u;
+      is = y .is ∙ rw (put-front x, append-assoc (take at a) t u, rest);
     }
+  where
+    rest : drop r b ≡ drop r a
+    rest = rw (y .ends, ← drop-drop (length u) p b, put-leaves x, drop-drop)
 
 pub put-one : (a : List ℕ) (at b : ℕ) → at < length a → Put a at (b ∷ []) (set a at b) (at + 1)
-put-one a at b h = record { ends = refl; is = rw (add-one at, take-suc-set a at b) }
+put-one a at b h = record { within = omega arith; ends = refl; is = set-split a at b h ∙ rw (add-one at, append-snoc) }
 
 -- ---- digits
 
@@ -154,21 +174,21 @@ module _ (n k : ℕ) (h : n < 2 ^ 64) (f : Fewest 16 16 n k) (d : List ℕ) (c :
 
 -- ---- an answer's line
 
-pub put-nothing : (a : List ℕ) (at : ℕ) → Put a at [] a at
-put-nothing a at = record { ends = omega arith; is = sym (append-nil (take at a)) }
+pub put-nothing : (a : List ℕ) (at : ℕ) → at ≤ length a → Put a at [] a at
+put-nothing a at h = record { within = h; ends = omega arith; is = sym (rw append-nil (take-append-drop at a)) }
 
 pub kind-refused : (answer : Answer) {n : ℕ} → answer ≡ Refused n → 10 + n ≡ kindOf answer
 kind-refused answer e = rw e
 
 module _ (a : List ℕ) (at : ℕ) (answer : Answer) where
-  pub refused-put : {n : ℕ} → answer ≡ Refused n → Put a at (numbersText (numbersOf answer)) a at
-  refused-put e = rw e (put-nothing a at)
+  pub refused-put : {n : ℕ} → at + 51 ≤ length a → answer ≡ Refused n → Put a at (numbersText (numbersOf answer)) a at
+  refused-put h e = rw e (put-nothing a at (omega arith))
 
   pub two-put : {x y : Float} {b c : List ℕ} {p r : ℕ} → answer ≡ ByValue x y → Put a at (doubleField x) b p → Put b p (doubleField y) c r → Put a at (numbersText (numbersOf answer)) c r
-  two-put {c = c} {r = r} e f g = rw e (put-both f (put-both g (put-nothing c r)))
+  two-put e f g = rw (e, append-nil) (put-both f g)
 
   pub three-put : {x y z : Float} {b c d : List ℕ} {p q r : ℕ} → answer ≡ ByWidth x y z → Put a at (doubleField x) b p → Put b p (doubleField y) c q → Put c q (doubleField z) d r → Put a at (numbersText (numbersOf answer)) d r
-  three-put {d = d} {r = r} e f g h = rw e (put-both f (put-both g (put-both h (put-nothing d r))))
+  three-put e f g h = rw (e, append-nil) (put-both f (put-both g h))
 
 pub progress-put : (a : List ℕ) (at : ℕ) (progress : Progress) {b c d e : List ℕ} {p q u r : ℕ} → Put a at (decimalField (progress .tally .steps .0) 32) b p → Put b p (decimalField (progress .tally .values .0) 32) c q → Put c q (decimalField (progress .tally .derivatives .0) 32) d u → Put d u (decimalField (progress .mark) 10) e r → Put a at (progressText progress) e r
 unfolding progressText

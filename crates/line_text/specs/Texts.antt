@@ -1,12 +1,12 @@
 -- Answers as text. Definitions, and what the contracts of `text` say of a buffer.
-use Prim.Native.Nat.{ℕ, zero, suc, _+_, _-_, _/_, _%_}
+use Prim.Native.Nat.{ℕ, zero, suc, _+_, _-_, _/_, _%_, _≤_}
 use Prim.Native.String.{String, [] as none, _∷_ as _then_}
 use Prim.Native.Char.{code}
 use mathlib.Core.Bool.{Bool, true, false, cond}
 use mathlib.Core.List.{List, [], _∷_, _++_}
 use mathlib.Core.Path.{_≡_}
 use lib.Dec.{ltb, eqb}
-use lib.ListN.{length, take, getD}
+use lib.ListN.{length, take, drop, getD}
 use lib.Ieee.{Float, binary64, toBits}
 use Rattle.io.specs.Digits.{glyph, digits}
 use Rattle.numerical.specs.Answers.{kindOf, numbersOf}
@@ -87,7 +87,8 @@ lineReply false t = replyTo t
 
 -- ---- a buffer
 
--- behind the first `at` bytes of `before` now stands t, up to r
+-- behind the first `at` bytes of `before` now stands t, up to r, and the rest is as it was
 pub record Put (before : List ℕ) (at : ℕ) (t now : List ℕ) (r : ℕ) : Type 0 where
+  pub within : at ≤ length before
   pub ends : r ≡ at + length t
-  pub is : take r now ≡ take at before ++ t
+  pub is : now ≡ take at before ++ t ++ drop r before

@@ -2,7 +2,7 @@
 ghost use mathlib.Core.Path.{_≡_};
 ghost use Prim.Native.Nat.{_+_, _≤_};
 ghost use lib.ListN.{length, drop};
-ghost use Rattle.line_text.specs.Calls.{Filled, methodNumber, methodOf, startsOf, Reads, withLimit, withDoubles, withCount, askedOf};
+ghost use Rattle.line_text.specs.Calls.{Filled, methodNumber, methodOf, startsOf, Reads, filledWith, countFills, lineFills, doubles, withLimit, withDoubles, withCount, askedOf};
 use crate::digits;
 use crate::fields;
 use digits::Number;
@@ -40,7 +40,7 @@ pub enum Place {
 // Reads k fields from `at` on as doubles, into a.
 pub fn read_doubles(s: &[u8], at: usize, k: usize, a: &mut [f64]) -> Place
     requires { ⌜ (at ≤ length (now s)) × (k ≤ length (now a)) ⌝ }
-    ensures { λ r. ⌜ Filled (now (s .entry)) at k (now (a .exit)) r ⌝ }
+    ensures { λ r. ⌜ Filled (now (s .entry)) at k (now (a .entry)) (now (a .exit)) r ⌝ }
 {
     let mut p = at;
     let mut i = 0;
@@ -99,7 +99,7 @@ fn method_of(m: u8, p: f64, q: f64) -> Method
 // The limit at `at`, behind which nothing may follow; a holds the doubles.
 fn with_limit(s: &[u8], at: usize, m: u8, count: usize, a: &[f64]) -> Reading
     requires { ⌜ (at ≤ length (now s)) × (count + 3 ≤ length (now a)) ⌝ }
-    ensures { λ r. ⌜ Reads (withLimit m count (now (a .entry)) (drop at (now (s .entry)))) (now (a .entry)) r ⌝ }
+    ensures { λ r. ⌜ Reads (withLimit m count (now (a .entry)) (drop at (now (s .entry)))) (now (a .entry)) (now (a .entry)) r ⌝ }
 {
     let f = fields::next(s, at);
     let from = f.from;
@@ -124,7 +124,7 @@ fn with_limit(s: &[u8], at: usize, m: u8, count: usize, a: &[f64]) -> Reading
 // The doubles at `at`: the coefficients, the starts and eps.
 fn with_doubles(s: &[u8], at: usize, m: u8, count: usize, a: &mut [f64]) -> Reading
     requires { ⌜ (at ≤ length (now s)) × (count ≤ 40) × (43 ≤ length (now a)) ⌝ }
-    ensures { λ r. ⌜ Reads (withDoubles m count (drop at (now (s .entry)))) (now (a .exit)) r ⌝ }
+    ensures { λ r. ⌜ Reads (withDoubles m count (drop at (now (s .entry)))) (filledWith (doubles m count) (drop at (now (s .entry))) (now (a .entry))) (now (a .exit)) r ⌝ }
 {
     let k = count + starts(m) + 1;
     match read_doubles(s, at, k, a) {
@@ -136,7 +136,7 @@ fn with_doubles(s: &[u8], at: usize, m: u8, count: usize, a: &mut [f64]) -> Read
 // The count at `at`.
 fn with_count(s: &[u8], at: usize, m: u8, a: &mut [f64]) -> Reading
     requires { ⌜ (at ≤ length (now s)) × (43 ≤ length (now a)) ⌝ }
-    ensures { λ r. ⌜ Reads (withCount m (drop at (now (s .entry)))) (now (a .exit)) r ⌝ }
+    ensures { λ r. ⌜ Reads (withCount m (drop at (now (s .entry)))) (countFills m (drop at (now (s .entry))) (now (a .entry))) (now (a .exit)) r ⌝ }
 {
     let f = fields::next(s, at);
     let from = f.from;
@@ -153,7 +153,7 @@ fn with_count(s: &[u8], at: usize, m: u8, a: &mut [f64]) -> Reading
 // What the line asks for, with the coefficients in a, which holds up to 40 of them, two starts and eps.
 pub fn read(s: &[u8], a: &mut [f64]) -> Reading
     requires { ⌜ 43 ≤ length (now a) ⌝ }
-    ensures { λ r. ⌜ Reads (askedOf (now (s .entry))) (now (a .exit)) r ⌝ }
+    ensures { λ r. ⌜ Reads (askedOf (now (s .entry))) (lineFills (now (s .entry)) (now (a .entry))) (now (a .exit)) r ⌝ }
 {
     let f = fields::next(s, 0);
     let from = f.from;

@@ -1,7 +1,8 @@
 // The input as it comes: bytes gathered into a line, and replies that wait to be written.
+ghost use mathlib.Core.Path.{_≡_};
 ghost use Prim.Native.Nat.{_+_, _≤_, _<_};
 ghost use lib.ListN.{length};
-ghost use Rattle.line_text.specs.Inputs.{Fine, Taken, Fed};
+ghost use Rattle.line_text.specs.Inputs.{Fine, Taken, Fed, stopsAt};
 use crate::reply;
 
 // Where things stand between two bytes.
@@ -58,6 +59,7 @@ pub fn fed(block: &[u8], from: usize, line: &mut [u8], out: &mut [u8], start: St
     requires { ⌜ Fine (now line) (now out) start ⌝ }
     requires { ⌜ start .waiting + 156 ≤ length (now out) ⌝ }
     ensures { λ r. ⌜ Fed (now (block .entry)) from (now (line .entry)) (now (out .entry)) start (r .at) (now (line .exit)) (now (out .exit)) (r .state) ⌝ }
+    ensures { λ r. ⌜ r .at ≡ stopsAt (now (block .entry)) from (now (line .entry)) (now (out .entry)) start ⌝ }
     ensures { λ r. ⌜ from < r .at ⌝ }
 {
     let mut s = start;

@@ -13,3 +13,4 @@ pub mod PolynomSearch
 pub mod Brent
 pub mod Roots
 pub mod RootsC
+pub mod LineText

@@ -7,7 +7,7 @@ use Rattle.line_text.proofs.call.read_doubles.Statement.{statement}
 use Rattle.line_text.proofs.call.read_doubles.Tie as tie
 
 abbrev Inv-loop : tie.InvT-loop
-Inv-loop s at k a₀ p₀ i₀ a p i = (length a ≡ length a₀) × Filling s at k a p i
+Inv-loop s at k a₀ p₀ i₀ a p i = (length a ≡ length a₀) × Filling s at k a₀ a p i
 
 abbrev μ-loop : tie.MeasureT-loop
 μ-loop s at k a₀ p₀ i₀ a p i = k - i
