@@ -6,9 +6,9 @@ use lib.Ieee.{Float, binary64, ofBits, ofFields, nan, inf}
 use Rattle.roots.specs.declared.Method.the-variants.{Brent, NewtonRaphson}
 use Rattle.line_text.specs.Digits.{digitOf, numberFrom, decimalOf, wordOf}
 use Rattle.line_text.specs.Fields.{fieldOf, restOf}
-use Rattle.line_text.specs.Calls.{call, no-call, methodNumber, startsOf, methodOf, withLimit, withDoubles, withCount, askedOf}
+use Rattle.line_text.specs.Calls.{call, no-call, methodNumber, startsOf, methodOf, withLimit, withDoubles, withCount, askedOf, countFills, lineFills}
 use Rattle.line_text.specs.Texts.{bytes, decimalText, hexText, trimmed, replyTo}
-use Rattle.line_text.specs.Inputs.{fresh, grown, nextLine, replyAt, lineAfter, repliesTo}
+use Rattle.line_text.specs.Inputs.{fresh, grown, nextLine, replyAt, lineAfter, repliesTo, stored, bufferAfter, countTaken}
 use Rattle.line_text.specs.declared.digits.Number.the-variants.{Is, Wrong}
 use Rattle.line_text.specs.declared.call.Reason.the-variants as reason
 
@@ -87,11 +87,27 @@ no-lines :
 unfolding askedOf fieldOf restOf methodNumber withCount decimalOf numberFrom digitOf withDoubles startsOf wordOf withLimit methodOf
 no-lines = (refl, refl, refl, refl, refl)
 
+-- a double in front of a field that is none is in the array, and the rest is as it was; with no method so is all of it
+arrays :
+    (lineFills (bytes "4 1 bff0000000000000 0 2") (nought ∷ two ∷ small ∷ []) ≡ minusOne ∷ two ∷ small ∷ [])
+    × (lineFills (bytes "6 1 bff0000000000000") (two ∷ []) ≡ two ∷ [])
+unfolding lineFills countFills fieldOf restOf methodNumber decimalOf numberFrom digitOf startsOf wordOf
+arrays = (refl, refl)
+
 -- ---- the input
 
 -- two lines and the start of a third, of which three bytes are kept
 input :
     (repliesTo 3 fresh (bytes "6\n\n1 2 3") ≡ bytes "error method\nerror empty\n")
     × (lineAfter 3 fresh (bytes "6\n\n1 2 3") ≡ record { text = bytes "1 2"; long = true })
+    × (bufferAfter 3 (bytes "abc") fresh (bytes "6\n\n1") ≡ bytes "1bc")
+unfolding nextLine grown replyAt replyTo trimmed askedOf fieldOf restOf methodNumber stored
+input = (refl, refl, refl)
+
+-- the first reply has 13 bytes, the second 12: where up to 12 may wait only the first line is taken, with 13 the second too
+stops :
+    (countTaken 3 12 fresh 0 (bytes "6\n\n1 2 3") ≡ 2)
+    × (countTaken 3 13 fresh 0 (bytes "6\n\n1 2 3") ≡ 3)
+    × (countTaken 3 25 fresh 0 (bytes "6\n\n1 2 3") ≡ 8)
 unfolding nextLine grown replyAt replyTo trimmed askedOf fieldOf restOf methodNumber
-input = (refl, refl)
+stops = (refl, refl, refl)
