@@ -127,7 +127,7 @@ stepDeparts a p = differ (oppositeSign (a .y) (p .y)) (below (mul binary64 (a .y
 
 -- the test of a step, with what the run has done after it
 abbrev pub oppositeBy : Sample → Sample → Progress → Decided
-oppositeBy a p w = record { holds = oppositeSign (a .y) (p .y); progress = ruledOf 1 (stepDeparts a p) w }
+oppositeBy a p w = record { decision = oppositeSign (a .y) (p .y); progress = ruledOf 1 (stepDeparts a p) w }
 
 unfoldable pub arrived : Brent → Bool → Sample → Prog (Turned Brent)
 arrived s flag p =

@@ -17,8 +17,8 @@ pub room-opposite : {j k : ℕ} {p : Progress} {w : Decided} → Room j p → (a
 room-opposite r a b h e = room-ruled r 1 (stepDeparts a b) h (ap (λ (w : Decided). w .progress) e)
 
 -- what the code decided is what the definition goes by
-pub opposite-holds : {w : Decided} (a b : Sample) (p : Progress) → w ≡ oppositeBy a b p → w .holds ≡ oppositeSign (a .y) (b .y)
-opposite-holds a b p e = ap (λ (w : Decided). w .holds) e
+pub opposite-decision : {w : Decided} (a b : Sample) (p : Progress) → w ≡ oppositeBy a b p → w .decision ≡ oppositeSign (a .y) (b .y)
+opposite-decision a b p e = ap (λ (w : Decided). w .decision) e
 
 pub by-opposite :
     {A : Type 0} (cs : List Float) (p : Progress) {r : A × Progress} {w : Decided} (a b : Sample) (g : Prog A) →

@@ -81,7 +81,7 @@ fn opened(pair: Arranged, p: Progress) -> Turn
     let b = pair.b;
     let decided = searching::alike(a, b, p);
     let marked = decided.progress;
-    if decided.holds {
+    if decided.decision {
         return ended(Answer::Refused(6), marked);
     }
     goes_on(
@@ -270,7 +270,7 @@ fn opposite(p: Sample, q: Sample, progress: Progress) -> Decided
     let unlike = doubles::opposite_sign(p.y, q.y);
     let below = doubles::is_below(p.y * q.y);
     Decided {
-        holds: unlike,
+        decision: unlike,
         progress: progress.ruled(1, unlike != below),
     }
 }
@@ -283,7 +283,7 @@ fn arrived(s: Brent, flag: bool, p: Sample, progress: Progress) -> Turn
     let end = s.a;
     let apart = opposite(end, p, progress);
     let marked = apart.progress;
-    if apart.holds {
+    if apart.decision {
         keep_a(s, flag, p, marked)
     } else {
         keep_b(s, flag, p, marked)

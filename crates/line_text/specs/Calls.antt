@@ -14,8 +14,8 @@ use Rattle.line_text.specs.declared.digits.Number.{Number}
 use Rattle.line_text.specs.declared.digits.Number.the-variants.{Is, Wrong}
 use Rattle.line_text.specs.declared.call.Place.{Place}
 use Rattle.line_text.specs.declared.call.Place.the-variants as place
-use Rattle.line_text.specs.declared.call.Reason.{Reason}
-use Rattle.line_text.specs.declared.call.Reason.the-variants as reason
+use Rattle.line_text.specs.declared.call.Fault.{Fault}
+use Rattle.line_text.specs.declared.call.Fault.the-variants as fault
 use Rattle.line_text.specs.declared.call.Reading.{Reading}
 use Rattle.line_text.specs.declared.call.Reading.the-variants as reading
 
@@ -70,8 +70,8 @@ unfoldable pub methodNumber : List ℕ → ℕ
 methodNumber t = cond (eqb (length t) 1) (cond (ltb (getD t 0 0) 49) 0 (cond (ltb (getD t 0 0) 54) (getD t 0 0 - 48) 0)) 0
 
 -- Newton has one start, the others two
-unfoldable pub startsOf : ℕ → ℕ
-startsOf m = cond (eqb m 4) 1 2
+unfoldable pub startCount : ℕ → ℕ
+startCount m = cond (eqb m 4) 1 2
 
 unfoldable pub methodOf : ℕ → Float → Float → Method
 methodOf m p q =
@@ -85,33 +85,33 @@ methodOf m p q =
 
 pub data Asked : Type 0 where
   call : List Float → Method → Float → ℕ → Asked
-  no-call : Reason → Asked
+  no-call : Fault → Asked
 
 -- behind the limit nothing may follow; a are the coefficients, n of them, the starts and eps
 abbrev pub limited : ℕ → ℕ → List Float → Number → List ℕ → Asked
 limited m n a (Is l) t =
     cond (eqb (length (fieldOf t)) 0)
-    (call (take n a) (methodOf m (getD a n nan) (getD a (n + 1) nan)) (getD a (n + startsOf m) nan) l)
-    (no-call reason.Trailing)
-limited m n a Wrong t = no-call reason.Limit
+    (call (take n a) (methodOf m (getD a n nan) (getD a (n + 1) nan)) (getD a (n + startCount m) nan) l)
+    (no-call fault.Trailing)
+limited m n a Wrong t = no-call fault.Limit
 
 unfoldable pub withLimit : ℕ → ℕ → List Float → List ℕ → Asked
 withLimit m n a t = limited m n a (decimalOf (fieldOf t)) (restOf t)
 
 -- n coefficients, the starts and eps
 abbrev pub doubles : ℕ → ℕ → ℕ
-doubles m n = n + startsOf m + 1
+doubles m n = n + startCount m + 1
 
 unfoldable pub withDoubles : ℕ → ℕ → List ℕ → Asked
 withDoubles m n t =
     cond (allWords (doubles m n) t)
     (withLimit m n (doublesOf (doubles m n) t) (past (doubles m n) t))
-    (no-call reason.Number)
+    (no-call fault.Number)
 
 -- up to 40 coefficients, so that a count above 16 can be refused
 abbrev pub counted : ℕ → Number → List ℕ → Asked
-counted m (Is n) t = cond (ltb 40 n) (no-call reason.Count) (withDoubles m n t)
-counted m Wrong t = no-call reason.Count
+counted m (Is n) t = cond (ltb 40 n) (no-call fault.Count) (withDoubles m n t)
+counted m Wrong t = no-call fault.Count
 
 unfoldable pub withCount : ℕ → List ℕ → Asked
 withCount m t = counted m (decimalOf (fieldOf t)) (restOf t)
@@ -119,8 +119,8 @@ withCount m t = counted m (decimalOf (fieldOf t)) (restOf t)
 unfoldable pub askedOf : List ℕ → Asked
 askedOf t =
     cond (eqb (length (fieldOf t)) 0)
-    (no-call reason.Empty)
-    (cond (eqb (methodNumber (fieldOf t)) 0) (no-call reason.Method) (withCount (methodNumber (fieldOf t)) (restOf t)))
+    (no-call fault.Empty)
+    (cond (eqb (methodNumber (fieldOf t)) 0) (no-call fault.Method) (withCount (methodNumber (fieldOf t)) (restOf t)))
 
 -- ---- what the array then holds: it is written where the method and the count are right
 
@@ -147,7 +147,7 @@ abbrev pub askedBy : Reading → List Float → Asked
 askedBy (reading.Call c) a = call (take (c .count) a) (c .method) (c .eps) (c .limit)
 askedBy (reading.Wrong r) a = no-call r
 
-pub record Reads (asked : Asked) (filled a : List Float) (r : Reading) : Type 0 where
+pub record ReadAs (asked : Asked) (filled a : List Float) (r : Reading) : Type 0 where
   pub within : countOf r ≤ length a
   pub is : askedBy r a ≡ asked
   pub array : a ≡ filled

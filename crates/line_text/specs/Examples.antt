@@ -6,11 +6,11 @@ use lib.Ieee.{Float, binary64, ofBits, ofFields, nan, inf}
 use Rattle.roots.specs.declared.Method.the-variants.{Brent, NewtonRaphson}
 use Rattle.line_text.specs.Digits.{digitOf, numberFrom, decimalOf, wordOf}
 use Rattle.line_text.specs.Fields.{fieldOf, restOf}
-use Rattle.line_text.specs.Calls.{call, no-call, methodNumber, startsOf, methodOf, withLimit, withDoubles, withCount, askedOf, countFills, lineFills}
+use Rattle.line_text.specs.Calls.{call, no-call, methodNumber, startCount, methodOf, withLimit, withDoubles, withCount, askedOf, countFills, lineFills}
 use Rattle.line_text.specs.Texts.{bytes, decimalText, hexText, trimmed, replyTo}
 use Rattle.line_text.specs.Inputs.{fresh, grown, nextLine, replyAt, lineAfter, repliesTo, stored, bufferAfter, countTaken}
 use Rattle.line_text.specs.declared.digits.Number.the-variants.{Is, Wrong}
-use Rattle.line_text.specs.declared.call.Reason.the-variants as reason
+use Rattle.line_text.specs.declared.call.Fault.the-variants as fault
 
 abbrev nought : Float
 nought = ofBits binary64 0x0000_0000_0000_0000
@@ -74,24 +74,24 @@ lines :
     (askedOf (bytes "1 1 bff0000000000000 0000000000000000 4000000000000000 3f50000000000000 2")
     ≡ call (minusOne ∷ []) (Brent nought two) small 2)
     × (askedOf (bytes "4 1 bff0000000000000 0000000000000000 3f50000000000000 2") ≡ call (minusOne ∷ []) (NewtonRaphson nought) small 2)
-unfolding askedOf fieldOf restOf methodNumber withCount decimalOf numberFrom digitOf withDoubles startsOf wordOf withLimit methodOf
+unfolding askedOf fieldOf restOf methodNumber withCount decimalOf numberFrom digitOf withDoubles startCount wordOf withLimit methodOf
 lines = (refl, refl)
 
 -- a start that is missing, one too many, and a count that is no number
 no-lines :
-    (askedOf (bytes "1 1 bff0000000000000 0000000000000000 3f50000000000000 2") ≡ no-call reason.Number)
-    × (askedOf (bytes "4 1 bff0000000000000 0000000000000000 4000000000000000 3f50000000000000 2") ≡ no-call reason.Limit)
-    × (askedOf (bytes "4 -1 bff0000000000000") ≡ no-call reason.Count)
-    × (askedOf (bytes "6") ≡ no-call reason.Method)
-    × (askedOf [] ≡ no-call reason.Empty)
-unfolding askedOf fieldOf restOf methodNumber withCount decimalOf numberFrom digitOf withDoubles startsOf wordOf withLimit methodOf
+    (askedOf (bytes "1 1 bff0000000000000 0000000000000000 3f50000000000000 2") ≡ no-call fault.Number)
+    × (askedOf (bytes "4 1 bff0000000000000 0000000000000000 4000000000000000 3f50000000000000 2") ≡ no-call fault.Limit)
+    × (askedOf (bytes "4 -1 bff0000000000000") ≡ no-call fault.Count)
+    × (askedOf (bytes "6") ≡ no-call fault.Method)
+    × (askedOf [] ≡ no-call fault.Empty)
+unfolding askedOf fieldOf restOf methodNumber withCount decimalOf numberFrom digitOf withDoubles startCount wordOf withLimit methodOf
 no-lines = (refl, refl, refl, refl, refl)
 
 -- a double in front of a field that is none is in the array, and the rest is as it was; with no method so is all of it
 arrays :
     (lineFills (bytes "4 1 bff0000000000000 0 2") (nought ∷ two ∷ small ∷ []) ≡ minusOne ∷ two ∷ small ∷ [])
     × (lineFills (bytes "6 1 bff0000000000000") (two ∷ []) ≡ two ∷ [])
-unfolding lineFills countFills fieldOf restOf methodNumber decimalOf numberFrom digitOf startsOf wordOf
+unfolding lineFills countFills fieldOf restOf methodNumber decimalOf numberFrom digitOf startCount wordOf
 arrays = (refl, refl)
 
 -- ---- the input

@@ -10,10 +10,10 @@ use lib.Ieee.{Float}
 use borrow.Author.Tests.{eq-eqb, ne-eqb}
 use Rattle.numerical.specs.declared.Outcome.{Outcome}
 use Rattle.roots.specs.Calls.{answer}
-use Rattle.line_text.specs.Calls.{Asked, askedOf, askedBy, Reads}
-use Rattle.line_text.specs.Texts.{bytes, textOf, reasonText, replied, trimmed, replyTo, lineReply, Put}
+use Rattle.line_text.specs.Calls.{Asked, askedOf, askedBy, ReadAs}
+use Rattle.line_text.specs.Texts.{bytes, textOf, faultText, replied, trimmed, replyTo, lineReply, Put}
 use Rattle.line_text.specs.declared.call.Call.{Call}
-use Rattle.line_text.specs.declared.call.Reason.{Reason}
+use Rattle.line_text.specs.declared.call.Fault.{Fault}
 use Rattle.line_text.specs.declared.call.Reading.{Reading}
 use Rattle.line_text.specs.declared.call.Reading.the-variants as reading
 
@@ -38,8 +38,8 @@ module _ (s : List ℕ) where
 pub count-of-part : (n : ℕ) (s : List ℕ) → n ≤ length s → n ≡ length (take n s)
 count-of-part n s h = sym (length-take-le n s h)
 
-module _ (asked : Asked) {filled : List Float} (a : List Float) {r : Reading} {c : Call} (k : Reads asked filled a r) (e : r ≡ reading.Call c) where
-  called : Reads asked filled a (reading.Call c)
+module _ (asked : Asked) {filled : List Float} (a : List Float) {r : Reading} {c : Call} (k : ReadAs asked filled a r) (e : r ≡ reading.Call c) where
+  called : ReadAs asked filled a (reading.Call c)
   called = rw e at k
 
   pub count-within : c .count ≤ length a
@@ -50,7 +50,7 @@ module _ (asked : Asked) {filled : List Float} (a : List Float) {r : Reading} {c
 
 -- ---- what was read, and its reply
 
-module _ (s t : List ℕ) {filled : List Float} (a : List Float) {r : Reading} (k : Reads (askedOf t) filled a r) (w : t ≡ trimmed s) where
+module _ (s t : List ℕ) {filled : List Float} (a : List Float) {r : Reading} (k : ReadAs (askedOf t) filled a r) (w : t ≡ trimmed s) where
   replies : replied (askedBy r a) ≡ replyTo s
   unfolding replyTo
   replies = rw (k .is, w)
@@ -58,7 +58,7 @@ module _ (s t : List ℕ) {filled : List Float} (a : List Float) {r : Reading} (
   pub call-put : (before : List ℕ) (at : ℕ) {now : List ℕ} {p : ℕ} {c : Call} {o : Outcome} → r ≡ reading.Call c → o ≡ answer (take (c .count) a) (c .method) (c .eps) (c .limit) → Put before at (textOf o) now p → Put before at (replyTo s) now p
   call-put before at e f g = rw (← replies, e, ← f) g
 
-  pub wrong-put : (before : List ℕ) (at : ℕ) {now : List ℕ} {p : ℕ} {why : Reason} → r ≡ reading.Wrong why → Put before at (reasonText why) now p → Put before at (replyTo s) now p
+  pub wrong-put : (before : List ℕ) (at : ℕ) {now : List ℕ} {p : ℕ} {why : Fault} → r ≡ reading.Wrong why → Put before at (faultText why) now p → Put before at (replyTo s) now p
   wrong-put before at e g = rw (← replies, e) g
 
 -- ---- too long, or not

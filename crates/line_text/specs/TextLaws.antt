@@ -10,8 +10,8 @@ use lib.Seq.{paste, paste-zero, paste-suc, take-length, length-take-le, take-at,
 use native.Mathlib.Nat.{pow-suc, pow-le-pow-right, eq-zero-or-pos, div-lt-iff-lt-mul, le-div-iff-mul-le}
 use borrow.Author.Tests.{lt-ltb, le-ltb}
 use Rattle.io.specs.Digits.{digits, Fewest}
-use Rattle.line_text.specs.Texts.{Put, spelled, decimalText, hexText, decimalField, doubleField, numbersText, progressText, textOf, reasonText}
-use Rattle.line_text.specs.declared.call.Reason.{Reason}
+use Rattle.line_text.specs.Texts.{Put, spelled, decimalText, hexText, decimalField, doubleField, numbersText, progressText, textOf, faultText}
+use Rattle.line_text.specs.declared.call.Fault.{Fault}
 use Rattle.numerical.specs.Answers.{kindOf, numbersOf}
 use Rattle.numerical.specs.declared.Answer.{Answer}
 use Rattle.numerical.specs.declared.Answer.the-variants.{ByValue, ByWidth, Refused}
@@ -198,7 +198,7 @@ pub outcome-put : (a : List ℕ) (at : ℕ) (o : Outcome) {b c d : List ℕ} {n 
 unfolding textOf
 outcome-put a at o e f g h = put-both (put-both (rw e at f) g) h
 
--- ---- a reason's line
+-- ---- a fault's line
 
-pub reason-put : (a : List ℕ) (at : ℕ) (why : Reason) {k : Reason} {b : List ℕ} {r : ℕ} → why ≡ k → Put a at (reasonText k) b r → Put a at (reasonText why) b r
-reason-put a at why e f = rw e f
+pub fault-put : (a : List ℕ) (at : ℕ) (why : Fault) {k : Fault} {b : List ℕ} {r : ℕ} → why ≡ k → Put a at (faultText k) b r → Put a at (faultText why) b r
+fault-put a at why e f = rw e f

@@ -14,8 +14,8 @@ use Rattle.numerical.specs.declared.Outcome.{Outcome}
 use Rattle.numerical.specs.declared.Progress.{Progress}
 use Rattle.roots.specs.Calls.{answer}
 use Rattle.line_text.specs.Calls.{Asked, call, no-call, askedOf}
-use Rattle.line_text.specs.declared.call.Reason.{Reason}
-use Rattle.line_text.specs.declared.call.Reason.the-variants as reason
+use Rattle.line_text.specs.declared.call.Fault.{Fault}
+use Rattle.line_text.specs.declared.call.Fault.the-variants as fault
 
 -- a text of ASCII characters
 abbrev pub bytes : String → List ℕ
@@ -59,19 +59,19 @@ progressText p =
 unfoldable pub textOf : Outcome → List ℕ
 textOf o = decimalField (kindOf (o .answer)) 32 ++ numbersText (numbersOf (o .answer)) ++ progressText (o .progress)
 
-abbrev pub reasonText : Reason → List ℕ
-reasonText reason.Empty = bytes "error empty\n"
-reasonText reason.Method = bytes "error method\n"
-reasonText reason.Count = bytes "error count\n"
-reasonText reason.Number = bytes "error number\n"
-reasonText reason.Limit = bytes "error limit\n"
-reasonText reason.Trailing = bytes "error trailing\n"
+abbrev pub faultText : Fault → List ℕ
+faultText fault.Empty = bytes "error empty\n"
+faultText fault.Method = bytes "error method\n"
+faultText fault.Count = bytes "error count\n"
+faultText fault.Number = bytes "error number\n"
+faultText fault.Limit = bytes "error limit\n"
+faultText fault.Trailing = bytes "error trailing\n"
 
 -- ---- a line's reply
 
 abbrev pub replied : Asked → List ℕ
 replied (call a m eps limit) = textOf (answer a m eps limit)
-replied (no-call why) = reasonText why
+replied (no-call why) = faultText why
 
 -- a line without the carriage return at its end
 unfoldable pub trimmed : List ℕ → List ℕ

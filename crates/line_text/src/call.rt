@@ -2,14 +2,14 @@
 ghost use mathlib.Core.Path.{_≡_};
 ghost use Prim.Native.Nat.{_+_, _≤_};
 ghost use lib.ListN.{length, drop};
-ghost use Rattle.line_text.specs.Calls.{Filled, methodNumber, methodOf, startsOf, Reads, filledWith, countFills, lineFills, doubles, withLimit, withDoubles, withCount, askedOf};
+ghost use Rattle.line_text.specs.Calls.{Filled, methodNumber, methodOf, startCount, ReadAs, filledWith, countFills, lineFills, doubles, withLimit, withDoubles, withCount, askedOf};
 use crate::digits;
 use crate::fields;
 use digits::Number;
 use roots::Method;
 
 // Why a line is not a call.
-pub enum Reason {
+pub enum Fault {
     Empty,
     Method,
     Count,
@@ -28,7 +28,7 @@ pub struct Call {
 
 pub enum Reading {
     Call(Call),
-    Wrong(Reason),
+    Wrong(Fault),
 }
 
 // Where the doubles end, if each is one.
@@ -74,8 +74,8 @@ fn method_number(t: &[u8]) -> u8
 }
 
 // How many starts the method has.
-fn starts(m: u8) -> usize
-    ensures { λ r. ⌜ (r ≡ startsOf m) × (r ≤ 2) ⌝ }
+fn start_count(m: u8) -> usize
+    ensures { λ r. ⌜ (r ≡ startCount m) × (r ≤ 2) ⌝ }
 {
     if m == 4 { 1 } else { 2 }
 }
@@ -99,20 +99,20 @@ fn method_of(m: u8, p: f64, q: f64) -> Method
 // The limit at `at`, behind which nothing may follow; a holds the doubles.
 fn with_limit(s: &[u8], at: usize, m: u8, count: usize, a: &[f64]) -> Reading
     requires { ⌜ (at ≤ length (now s)) × (count + 3 ≤ length (now a)) ⌝ }
-    ensures { λ r. ⌜ Reads (withLimit m count (now (a .entry)) (drop at (now (s .entry)))) (now (a .entry)) (now (a .entry)) r ⌝ }
+    ensures { λ r. ⌜ ReadAs (withLimit m count (now (a .entry)) (drop at (now (s .entry)))) (now (a .entry)) (now (a .entry)) r ⌝ }
 {
     let f = fields::next(s, at);
     let from = f.from;
     let to = f.to;
     let Number::Is(limit) = digits::decimal(&s[from..to]) else {
-        return Reading::Wrong(Reason::Limit);
+        return Reading::Wrong(Fault::Limit);
     };
     let g = fields::next(s, to);
     if g.from < g.to {
-        return Reading::Wrong(Reason::Trailing);
+        return Reading::Wrong(Fault::Trailing);
     }
     let method = method_of(m, a[count], a[count + 1]);
-    let eps = a[count + starts(m)];
+    let eps = a[count + start_count(m)];
     Reading::Call(Call {
         method,
         count,
@@ -124,28 +124,28 @@ fn with_limit(s: &[u8], at: usize, m: u8, count: usize, a: &[f64]) -> Reading
 // The doubles at `at`: the coefficients, the starts and eps.
 fn with_doubles(s: &[u8], at: usize, m: u8, count: usize, a: &mut [f64]) -> Reading
     requires { ⌜ (at ≤ length (now s)) × (count ≤ 40) × (43 ≤ length (now a)) ⌝ }
-    ensures { λ r. ⌜ Reads (withDoubles m count (drop at (now (s .entry)))) (filledWith (doubles m count) (drop at (now (s .entry))) (now (a .entry))) (now (a .exit)) r ⌝ }
+    ensures { λ r. ⌜ ReadAs (withDoubles m count (drop at (now (s .entry)))) (filledWith (doubles m count) (drop at (now (s .entry))) (now (a .entry))) (now (a .exit)) r ⌝ }
 {
-    let k = count + starts(m) + 1;
+    let k = count + start_count(m) + 1;
     match read_doubles(s, at, k, a) {
         Place::At(p) => with_limit(s, p, m, count, a),
-        Place::Wrong => Reading::Wrong(Reason::Number),
+        Place::Wrong => Reading::Wrong(Fault::Number),
     }
 }
 
 // The count at `at`.
 fn with_count(s: &[u8], at: usize, m: u8, a: &mut [f64]) -> Reading
     requires { ⌜ (at ≤ length (now s)) × (43 ≤ length (now a)) ⌝ }
-    ensures { λ r. ⌜ Reads (withCount m (drop at (now (s .entry)))) (countFills m (drop at (now (s .entry))) (now (a .entry))) (now (a .exit)) r ⌝ }
+    ensures { λ r. ⌜ ReadAs (withCount m (drop at (now (s .entry)))) (countFills m (drop at (now (s .entry))) (now (a .entry))) (now (a .exit)) r ⌝ }
 {
     let f = fields::next(s, at);
     let from = f.from;
     let to = f.to;
     let Number::Is(count) = digits::decimal(&s[from..to]) else {
-        return Reading::Wrong(Reason::Count);
+        return Reading::Wrong(Fault::Count);
     };
     if 40 < count {
-        return Reading::Wrong(Reason::Count);
+        return Reading::Wrong(Fault::Count);
     }
     with_doubles(s, to, m, count as usize, a)
 }
@@ -153,17 +153,17 @@ fn with_count(s: &[u8], at: usize, m: u8, a: &mut [f64]) -> Reading
 // What the line asks for, with the coefficients in a, which holds up to 40 of them, two starts and eps.
 pub fn read(s: &[u8], a: &mut [f64]) -> Reading
     requires { ⌜ 43 ≤ length (now a) ⌝ }
-    ensures { λ r. ⌜ Reads (askedOf (now (s .entry))) (lineFills (now (s .entry)) (now (a .entry))) (now (a .exit)) r ⌝ }
+    ensures { λ r. ⌜ ReadAs (askedOf (now (s .entry))) (lineFills (now (s .entry)) (now (a .entry))) (now (a .exit)) r ⌝ }
 {
     let f = fields::next(s, 0);
     let from = f.from;
     let to = f.to;
     if from == to {
-        return Reading::Wrong(Reason::Empty);
+        return Reading::Wrong(Fault::Empty);
     }
     let m = method_number(&s[from..to]);
     if m == 0 {
-        return Reading::Wrong(Reason::Method);
+        return Reading::Wrong(Fault::Method);
     }
     with_count(s, to, m, a)
 }

@@ -5,7 +5,7 @@
 // hexadecimal digits of their bits. A carriage return may stand before the line feed, and the last line may lack both.
 //
 // Out: KIND NUMBERS.. STEPS VALUES DERIVATIVES MARK. KIND is 0 by value, with the root and its value, 1 by width, with the
-// root and two points, otherwise 10 plus the refusal's number. What is not a call gets `error` and the first reason of
+// root and two points, otherwise 10 plus the refusal's number. What is not a call gets `error` and the first fault of
 // empty, method, count, number, limit, trailing; a line that outgrew its buffer gets `error too long`.
 pub mod call;
 pub mod digits;

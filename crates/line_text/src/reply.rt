@@ -33,7 +33,7 @@ fn put_reply(s: &[u8], out: &mut [u8], at: usize) -> usize
             let outcome = roots::search(&a[..count], method, c.eps, c.limit);
             text::put_outcome(out, at, outcome)
         }
-        Reading::Wrong(why) => text::put_reason(out, at, why),
+        Reading::Wrong(why) => text::put_fault(out, at, why),
     }
 }
 

@@ -4,8 +4,8 @@ ghost use mathlib.Core.List.{[], _∷_};
 ghost use Prim.Native.Nat.{_+_, _≤_, _<_};
 ghost use lib.ListN.{length};
 ghost use Rattle.numerical.specs.Answers.{kindOf, numbersOf};
-ghost use Rattle.line_text.specs.Texts.{Put, decimalField, doubleField, numbersText, progressText, textOf, reasonText};
-use crate::call::Reason;
+ghost use Rattle.line_text.specs.Texts.{Put, decimalField, doubleField, numbersText, progressText, textOf, faultText};
+use crate::call::Fault;
 use numerical::Answer;
 use numerical::Outcome;
 use numerical::Progress;
@@ -117,17 +117,17 @@ pub fn put_outcome(out: &mut [u8], at: usize, outcome: Outcome) -> usize
 }
 
 // A line for what is not a call.
-pub fn put_reason(out: &mut [u8], at: usize, why: Reason) -> usize
+pub fn put_fault(out: &mut [u8], at: usize, why: Fault) -> usize
     requires { ⌜ at + 156 ≤ length (now out) ⌝ }
-    ensures { λ r. ⌜ Put (now (out .entry)) at (reasonText why) (now (out .exit)) r ⌝ }
+    ensures { λ r. ⌜ Put (now (out .entry)) at (faultText why) (now (out .exit)) r ⌝ }
     ensures { λ r. ⌜ r ≤ at + 156 ⌝ }
 {
     match why {
-        Reason::Empty => put(out, at, b"error empty\n"),
-        Reason::Method => put(out, at, b"error method\n"),
-        Reason::Count => put(out, at, b"error count\n"),
-        Reason::Number => put(out, at, b"error number\n"),
-        Reason::Limit => put(out, at, b"error limit\n"),
-        Reason::Trailing => put(out, at, b"error trailing\n"),
+        Fault::Empty => put(out, at, b"error empty\n"),
+        Fault::Method => put(out, at, b"error method\n"),
+        Fault::Count => put(out, at, b"error count\n"),
+        Fault::Number => put(out, at, b"error number\n"),
+        Fault::Limit => put(out, at, b"error limit\n"),
+        Fault::Trailing => put(out, at, b"error trailing\n"),
     }
 }

@@ -169,7 +169,7 @@ fn first_at(stop: StopRule, v: ValueAndDerivative, progress: Progress) -> Turn
 }
 
 // The first pass evaluates the start.
-fn opened(a: &[f64], stop: StopRule, start: f64, progress: Progress) -> Turn
+fn opening(a: &[f64], stop: StopRule, start: f64, progress: Progress) -> Turn
     requires { ⌜ Room 2 progress ⌝ }
     ensures { λ r. ⌜ viewed r ≡ play tallied (oracle (now (a .entry))) (opening stop start) progress ⌝ }
 {
@@ -229,7 +229,7 @@ pub fn find_root(a: &[f64], stop: StopRule, start: f64) -> Outcome
     requires { ⌜ stop .limit ≤ greatestLimit ⌝ }
     ensures { λ r. ⌜ r ≡ newtonRaphson (now (a .entry)) stop start ⌝ }
 {
-    let turn = opened(a, stop, start, Progress::fresh());
+    let turn = opening(a, stop, start, Progress::fresh());
     let to = turn.to;
     let progress = turn.progress;
     match to {

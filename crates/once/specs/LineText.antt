@@ -18,11 +18,11 @@ use Rattle.line_text.proofs.text.put_byte.Reads as put-byte-reads
 use Rattle.line_text.proofs.text.put_decimal.Reads as put-decimal-reads
 use Rattle.line_text.proofs.text.put_double.Reads as put-double-reads
 use Rattle.line_text.proofs.text.put_outcome.Reads as put-outcome-reads
-use Rattle.line_text.proofs.text.put_reason.Reads as put-reason-reads
+use Rattle.line_text.proofs.text.put_fault.Reads as put-fault-reads
 use Rattle.line_text.specs.CallLaws.{ends-fixed}
 use Rattle.line_text.specs.FieldLaws.{field-fixed}
 use Rattle.line_text.specs.InputLaws.{state-fixed, buffer-fixed, replies-fixed}
-use Rattle.line_text.specs.ReadingLaws.{reads-fixed}
+use Rattle.line_text.specs.ReadingLaws.{reading-fixed}
 use Rattle.line_text.specs.TextLaws.{put-fixed}
 use Rattle.once.specs.One.{One, Last, fixed}
 
@@ -35,7 +35,7 @@ pub read-doubles-array : Last {B = List Float} read-doubles-reads.Learnt (λ k e
 read-doubles-array k a x y e f p q = p .array ∙ sym (q .array)
 
 pub read-once : One read-reads.Learnt
-read-once k a x y e f p q = reads-fixed _ _ _ _ x y p q
+read-once k a x y e f p q = reading-fixed _ _ _ _ x y p q
 
 pub read-array : Last {B = List Float} read-reads.Learnt (λ k e. now (e .1 .0))
 read-array k a x y e f p q = p .array ∙ sym (q .array)
@@ -110,8 +110,8 @@ put-outcome-once k a x y e f p q = p .0 .ends ∙ sym (q .0 .ends)
 pub put-outcome-out : Last {B = List ℕ} put-outcome-reads.Learnt (λ k e. now (e .0))
 put-outcome-out k a x y e f p q = put-fixed (p .0) (q .0)
 
-pub put-reason-once : One put-reason-reads.Learnt
-put-reason-once k a x y e f p q = p .0 .ends ∙ sym (q .0 .ends)
+pub put-fault-once : One put-fault-reads.Learnt
+put-fault-once k a x y e f p q = p .0 .ends ∙ sym (q .0 .ends)
 
-pub put-reason-out : Last {B = List ℕ} put-reason-reads.Learnt (λ k e. now (e .0))
-put-reason-out k a x y e f p q = put-fixed (p .0) (q .0)
+pub put-fault-out : Last {B = List ℕ} put-fault-reads.Learnt (λ k e. now (e .0))
+put-fault-out k a x y e f p q = put-fixed (p .0) (q .0)

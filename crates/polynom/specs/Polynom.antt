@@ -73,16 +73,16 @@ valueAndDerivative a x = wholeBoth x (sumsBoth a x)
 abbrev pub sampleOf : Float → Float → Sample
 sampleOf x y = record { x = x; y = y }
 
-abbrev pub kept : Float → Float → Evaluated
-kept x y = cond (finite y) (At (sampleOf x y)) NotFinite
+abbrev pub sampleIfFinite : Float → Float → Evaluated
+sampleIfFinite x y = cond (finite y) (At (sampleOf x y)) NotFinite
 
 -- a sample at x, or that its value is not finite
 unfoldable pub evaluated : List Float → Float → Evaluated
-evaluated a x = kept x (value a x)
+evaluated a x = sampleIfFinite x (value a x)
 
-abbrev pub keptBoth : ValueAndDerivative → EvaluatedBoth
-keptBoth v = cond (finite (v .value .y)) (cond (finite (v .derivative)) (Both v) NotBothFinite) NotBothFinite
+abbrev pub bothIfFinite : ValueAndDerivative → EvaluatedBoth
+bothIfFinite v = cond (finite (v .value .y)) (cond (finite (v .derivative)) (Both v) NotBothFinite) NotBothFinite
 
 -- "they are worked out together and then checked"
 unfoldable pub evaluatedBoth : List Float → Float → EvaluatedBoth
-evaluatedBoth a x = keptBoth (valueAndDerivative a x)
+evaluatedBoth a x = bothIfFinite (valueAndDerivative a x)

@@ -3,7 +3,7 @@ use numerical::Sample;
 ghost use mathlib.Core.Path.{_≡_};
 ghost use Prim.Native.Nat.{_<_, _+_};
 ghost use lib.ListN.{length, drop};
-ghost use Rattle.polynom.specs.Polynom.{sums, value, valueAndDerivative, kept, evaluated, keptBoth, evaluatedBoth};
+ghost use Rattle.polynom.specs.Polynom.{sums, value, valueAndDerivative, sampleIfFinite, evaluated, bothIfFinite, evaluatedBoth};
 ghost use Rattle.polynom.specs.Terms.{Passed};
 
 // The sum so far, and the next power of x.
@@ -129,8 +129,8 @@ pub fn value_and_derivative(a: &[f64], x: f64) -> ValueAndDerivative
 }
 
 // The sample of a point and its value, if that is finite.
-fn kept(x: f64, y: f64) -> Evaluated
-    ensures { λ r. ⌜ r ≡ kept x y ⌝ }
+fn sample_if_finite(x: f64, y: f64) -> Evaluated
+    ensures { λ r. ⌜ r ≡ sampleIfFinite x y ⌝ }
 {
     if doubles::is_finite_by_size(y) {
         Evaluated::At(Sample { x, y })
@@ -143,12 +143,12 @@ fn kept(x: f64, y: f64) -> Evaluated
 pub fn evaluate(a: &[f64], x: f64) -> Evaluated
     ensures { λ r. ⌜ r ≡ evaluated (now (a .entry)) x ⌝ }
 {
-    kept(x, value(a, x))
+    sample_if_finite(x, value(a, x))
 }
 
 // What was worked out together is checked together.
-fn kept_both(v: ValueAndDerivative) -> EvaluatedBoth
-    ensures { λ r. ⌜ r ≡ keptBoth v ⌝ }
+fn both_if_finite(v: ValueAndDerivative) -> EvaluatedBoth
+    ensures { λ r. ⌜ r ≡ bothIfFinite v ⌝ }
 {
     if doubles::is_finite_by_size(v.value.y) {
         if doubles::is_finite_by_size(v.derivative) {
@@ -165,5 +165,5 @@ fn kept_both(v: ValueAndDerivative) -> EvaluatedBoth
 pub fn evaluate_both(a: &[f64], x: f64) -> EvaluatedBoth
     ensures { λ r. ⌜ r ≡ evaluatedBoth (now (a .entry)) x ⌝ }
 {
-    kept_both(value_and_derivative(a, x))
+    both_if_finite(value_and_derivative(a, x))
 }

@@ -82,10 +82,10 @@ module _ (cs : List Float) (p : Progress) {q : Progress} {r : Turned Interval ×
   unfolding chosen
   replaced-by h n k = by-alike cs p (i .begin) s _ e (by-narrow-to cs _ pairOf (replacedOf i s) h n k)
 
-  pub by-begin-replaced : w .holds ≡ true → q ≡ steppedOf (w .progress) → r ≡ (next (record { begin = s; end = i .end }), q) → r ≡ play tallied (oracle cs) (chosen i s) p
+  pub by-begin-replaced : w .decision ≡ true → q ≡ steppedOf (w .progress) → r ≡ (next (record { begin = s; end = i .end }), q) → r ≡ play tallied (oracle cs) (chosen i s) p
   unfolding replacedOf
   by-begin-replaced h = replaced-by (rw (decided-signs (i .begin) s p e h) refl)
 
-  pub by-end-replaced : w .holds ≡ false → q ≡ steppedOf (w .progress) → r ≡ (next (record { begin = i .begin; end = s }), q) → r ≡ play tallied (oracle cs) (chosen i s) p
+  pub by-end-replaced : w .decision ≡ false → q ≡ steppedOf (w .progress) → r ≡ (next (record { begin = i .begin; end = s }), q) → r ≡ play tallied (oracle cs) (chosen i s) p
   unfolding replacedOf
   by-end-replaced h = replaced-by (rw (decided-signs (i .begin) s p e h) refl)

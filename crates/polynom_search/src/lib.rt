@@ -62,7 +62,7 @@ fn second_at(p: Sample, q: Sample, progress: Progress) -> Turn
     ensures { λ r. ⌜ ((cs : List Float) (stop : StopRule) → viewed r ≡ play tallied (oracle cs) (secondAt stop p q) progress) ⌝ }
 {
     let decided = searching::alike(p, q, progress);
-    if decided.holds {
+    if decided.decision {
         ended(Answer::Refused(6), decided.progress)
     } else {
         goes_on(Interval { begin: p, end: q }, decided.progress)
@@ -96,7 +96,7 @@ fn ordered(a: &[f64], begin: f64, end: f64, progress: Progress) -> Turn
 }
 
 // The starts are ordered, and both are evaluated.
-fn opened(a: &[f64], from: f64, to: f64, progress: Progress) -> Turn
+fn opening(a: &[f64], from: f64, to: f64, progress: Progress) -> Turn
     requires { ⌜ Room 2 progress ⌝ }
     ensures { λ r. ⌜ ((stop : StopRule) → viewed r ≡ play tallied (oracle (now (a .entry))) (opening stop from to) progress) ⌝ }
 {
@@ -114,7 +114,7 @@ fn chosen(i: Interval, p: Sample, progress: Progress) -> Turn
     let begin = i.begin;
     let end = i.end;
     let decided = searching::alike(begin, p, progress);
-    if decided.holds {
+    if decided.decision {
         goes_on(Interval { begin: p, end }, decided.progress.stepped())
     } else {
         goes_on(Interval { begin, end: p }, decided.progress.stepped())
@@ -289,7 +289,7 @@ pub fn find_root(a: &[f64], stop: StopRule, from: f64, to: f64) -> Outcome
     requires { ⌜ stop .limit ≤ greatestLimit ⌝ }
     ensures { λ r. ⌜ r ≡ polynomSearch (now (a .entry)) stop from to ⌝ }
 {
-    let turn = opened(a, from, to, Progress::fresh());
+    let turn = opening(a, from, to, Progress::fresh());
     let leads = turn.to;
     let progress = turn.progress;
     match leads {

@@ -58,12 +58,12 @@ agrees c o =
     && (eqb (o .progress .tally .derivatives .0) (c .derivatives)
     && eqb (o .progress .mark) (c .mark)))))
 
-unfoldable pub holds : Case → Bool
-holds c = agrees c (answer (doubles (c .coefficients)) (c .method) (double (c .eps)) (c .limit))
+unfoldable pub isMet : Case → Bool
+isMet c = agrees c (answer (doubles (c .coefficients)) (c .method) (double (c .eps)) (c .limit))
 
-unfoldable pub allHold : List Case → Bool
-allHold [] = true
-allHold (c ∷ rest) = cond (holds c) (allHold rest) false
+unfoldable pub allMet : List Case → Bool
+allMet [] = true
+allMet (c ∷ rest) = cond (isMet c) (allMet rest) false
 
 -- ---- the numbers of the table
 
@@ -138,11 +138,6 @@ cases =
     ∷ refused (d0 ∷ d0 ∷ []) (Brent (double part64) (double d1)) part1024 9 6 0 2 0
     ∷ []
 
--- every call of the list gets exactly the answer of the table
-pub cases-hold : allHold cases ≡ true
-unfolding allHold cases holds agrees doubles sameBits answer badCount allFinite checkedOf badEps foundAt convergedAt absolute sameSign oppositeSign outside pulled atLeast atMost crosses middleOf markAfter sums value sumsBoth valueAndDerivative evaluated evaluatedBoth bind test stops sampled sampledBoth valueAt bothAt offered pulledInto rising productDeparts bracketed stepsTo narrowsTo run searches play answerOf br.arrange br.startOf br.opened br.secondAt br.firstAt br.opening br.inverseQuadratic br.chord br.threeValues br.guessOf br.beyondQuarter br.tooSlow br.stalls br.bisects br.usedOf br.nextOf br.keptA br.keptB br.stepDeparts br.arrived br.landed br.pulledIn br.stepWith br.stepFrom br.turnFrom br.brentProgram br.brent rf.secondAt rf.firstAt rf.ordered rf.opening rf.candidateOf rf.replacedOf rf.departs rf.arrived rf.landed rf.pulledIn rf.turnFrom rf.illinoisProgram rf.regulaFalsi sec.secondAt sec.firstAt sec.opening sec.candidateOf sec.arrived sec.landed sec.turnFrom sec.secantProgram sec.secant nr.newtonPoint nr.landed nr.onward nr.laterAt nr.turnFrom nr.nudgedTo nr.nudge nr.firstAt nr.opening nr.newtonProgram nr.newtonRaphson ps.secondAt ps.firstAt ps.ordered ps.opening ps.replacedOf ps.chosen ps.closer ps.newtonPoint ps.inPair ps.usable ps.atMiddle ps.stepAt ps.widthAt ps.pulledIn ps.atMiddleOf ps.turnFrom ps.polynomProgram ps.polynomSearch lt le eq ne neg sub add mul div ofBits toBits
-cases-hold = refl
-
 -- ---- "Limits: 16 coefficients pass, 17 get 1; eps 2^-300 passes, its half gets 4; limit 400 passes, 401 gets 5"
 
 abbrev pub noughts : ℕ → List ℕ
@@ -175,7 +170,14 @@ limits =
     ∷ refused (d0 ∷ d1 ∷ []) (NewtonRaphson (double half)) part1024 plainLimit 8 30 30 30
     ∷ []
 
--- and so does every call of this list
-pub limits-hold : allHold limits ≡ true
-unfolding allHold limits holds agrees doubles sameBits answer badCount allFinite checkedOf badEps foundAt convergedAt absolute sameSign oppositeSign outside pulled atLeast atMost crosses middleOf markAfter sums value sumsBoth valueAndDerivative evaluated evaluatedBoth bind test stops sampled sampledBoth valueAt bothAt offered pulledInto rising productDeparts bracketed stepsTo narrowsTo run searches play answerOf br.arrange br.startOf br.opened br.secondAt br.firstAt br.opening br.inverseQuadratic br.chord br.threeValues br.guessOf br.beyondQuarter br.tooSlow br.stalls br.bisects br.usedOf br.nextOf br.keptA br.keptB br.stepDeparts br.arrived br.landed br.pulledIn br.stepWith br.stepFrom br.turnFrom br.brentProgram br.brent rf.secondAt rf.firstAt rf.ordered rf.opening rf.candidateOf rf.replacedOf rf.departs rf.arrived rf.landed rf.pulledIn rf.turnFrom rf.illinoisProgram rf.regulaFalsi sec.secondAt sec.firstAt sec.opening sec.candidateOf sec.arrived sec.landed sec.turnFrom sec.secantProgram sec.secant nr.newtonPoint nr.landed nr.onward nr.laterAt nr.turnFrom nr.nudgedTo nr.nudge nr.firstAt nr.opening nr.newtonProgram nr.newtonRaphson ps.secondAt ps.firstAt ps.ordered ps.opening ps.replacedOf ps.chosen ps.closer ps.newtonPoint ps.inPair ps.usable ps.atMiddle ps.stepAt ps.widthAt ps.pulledIn ps.atMiddleOf ps.turnFrom ps.polynomProgram ps.polynomSearch lt le eq ne neg sub add mul div ofBits toBits
-limits-hold = refl
+-- ---- every call of a list gets exactly the answer that stands there
+
+both-hold : (allMet cases ≡ true) × (allMet limits ≡ true)
+unfolding allMet cases limits isMet agrees doubles sameBits answer badCount allFinite checkedOf badEps foundAt convergedAt absolute sameSign oppositeSign outside pulled atLeast atMost crosses middleOf markAfter sums value sumsBoth valueAndDerivative evaluated evaluatedBoth bind test stops sampled sampledBoth valueAt bothAt offered pulledInto rising productDeparts bracketed stepsTo narrowsTo run searches play answerOf br.arrange br.startOf br.opened br.secondAt br.firstAt br.opening br.inverseQuadratic br.chord br.threeValues br.guessOf br.beyondQuarter br.tooSlow br.stalls br.bisects br.usedOf br.nextOf br.keptA br.keptB br.stepDeparts br.arrived br.landed br.pulledIn br.stepWith br.stepFrom br.turnFrom br.brentProgram br.brent rf.secondAt rf.firstAt rf.ordered rf.opening rf.candidateOf rf.replacedOf rf.departs rf.arrived rf.landed rf.pulledIn rf.turnFrom rf.illinoisProgram rf.regulaFalsi sec.secondAt sec.firstAt sec.opening sec.candidateOf sec.arrived sec.landed sec.turnFrom sec.secantProgram sec.secant nr.newtonPoint nr.landed nr.onward nr.laterAt nr.turnFrom nr.nudgedTo nr.nudge nr.firstAt nr.opening nr.newtonProgram nr.newtonRaphson ps.secondAt ps.firstAt ps.ordered ps.opening ps.replacedOf ps.chosen ps.closer ps.newtonPoint ps.inPair ps.usable ps.atMiddle ps.stepAt ps.widthAt ps.pulledIn ps.atMiddleOf ps.turnFrom ps.polynomProgram ps.polynomSearch lt le eq ne neg sub add mul div ofBits toBits
+both-hold = (refl, refl)
+
+pub cases-hold : allMet cases ≡ true
+cases-hold = both-hold .0
+
+pub limits-hold : allMet limits ≡ true
+limits-hold = both-hold .1

@@ -12,7 +12,7 @@ use Rattle.roots.specs.Calls.{startsOf, answer}
 use Rattle.roots.specs.declared.Method.{Method}
 use Rattle.promises.specs.Searches.{Held, Early, one, two, three, four, five}
 use Rattle.promises.specs.EarlyLaws.{early-at-once, passes-at-once, at-once-early}
-use Rattle.promises.specs.Backing.{refused-now, number-range, early-iff}
+use Rattle.promises.specs.RefusalLaws.{refused-now, number-range, early-iff}
 
 -- what is promised of the outcome of every call
 pub record Demand1 (a : List Float) (m : Method) (eps : Float) (limit : ℕ) (outcome : Outcome) : Type 0 where

@@ -20,13 +20,16 @@ use Rattle.searching.specs.Events.{evaluationsIn, signsMissed, Each, BeforePair
 use Rattle.searching.specs.Histories.{stepsIn}
 use Rattle.searching.specs.ProgramLaws.{counted}
 use Rattle.searching.specs.Programs.{Test, found, converged, holds, tested, Event, noted}
-use Rattle.searching.specs.Reasons.{Occurs, endsRun, Calls, SignsHeld, FlatHeld, NoneHeld, NotFiniteIn, EvaluatedAt, Reason}
+use Rattle.searching.specs.Reasons.{Occurs, endsRun, CalledFor, SignsHeld, FlatHeld, NoneHeld, NotFiniteIn, EvaluatedAt, Reason}
 use Rattle.searching.specs.ExactLaws.{decided, tests-honest, points-finite, exactly-by-value, exactly-by-width, exactly-six, exactly-seven, exactly-eight, exactly-nine}
 use Rattle.roots.specs.Calls.{startsOf, answer}
 use Rattle.roots.specs.declared.Method.{Method}
 use Rattle.promises.specs.Searches.{ruleOf, historyOf, Passes, Held, mostValues, mostDerivatives, mostSteps, followsOf, givesOf, Flat, Marks, Bracketed, Truthful, NestedByOrder}
 use Rattle.promises.specs.EarlyLaws.{atOnce, passes-at-once}
-use Rattle.promises.specs.Backing.{counts-of, values-within, derivatives-within, reason-of, value-true, width-true, pairs-of, pairs-nested, root-by-value, root-by-width, history-truthful}
+use Rattle.promises.specs.AnswerLaws.{counts-of, history-truthful}
+use Rattle.promises.specs.EndLaws.{reason-of, value-true, width-true}
+use Rattle.promises.specs.PairLaws.{pairs-of, pairs-nested, root-by-value, root-by-width}
+use Rattle.promises.specs.BoundLaws.{values-within, derivatives-within}
 use Rattle.promises.specs.HistoryLaws.{events-of, width-of, values-listed, pairs-there, pairs-none, flat-of, marks-of, six-of}
 
 -- ---- all five methods
@@ -54,7 +57,7 @@ pub record Demand3 (a : List Float) (m : Method) (eps : Float) (limit : ℕ) (ou
   -- every point that is evaluated is finite
   pub points : (x : Float) → EvaluatedAt x (historyOf a m eps limit) → finite x ≡ true
   -- any event that ends a run, wherever it stands in the history, fixes the answer
-  pub decides : (e : Event) → Occurs e (historyOf a m eps limit) → endsRun (ruleOf eps limit) e ≡ true → Calls e (outcome .answer)
+  pub decides : (e : Event) → Occurs e (historyOf a m eps limit) → endsRun (ruleOf eps limit) e ≡ true → CalledFor e (outcome .answer)
   -- by value exactly when found was tested of that sample and held
   pub by-value-exactly : (p : Sample) → (outcome .answer ≡ ByValue (p .x) (p .y)) ↔ Occurs (noted (tested (found p) true)) (historyOf a m eps limit)
   -- then the root's computed value is the value given, its size is below eps, and the root is finite

@@ -30,7 +30,9 @@ use Rattle.roots.specs.Calls.{startsOf, answer}
 use Rattle.roots.specs.declared.Method.{Method}
 use Rattle.roots.specs.declared.Method.the-variants.{Brent, RegulaFalsi, Secant, NewtonRaphson, Polynom}
 use Rattle.promises.specs.EarlyLaws.{atOnce}
-use Rattle.promises.specs.Backing.{passed, at-answer, counts-of, reason-of, six-told, plain-secant, plain-newton, two-marks}
+use Rattle.promises.specs.AnswerLaws.{passed, at-answer, counts-of}
+use Rattle.promises.specs.EndLaws.{reason-of, six-told}
+use Rattle.promises.specs.MarkLaws.{plain-secant, plain-newton, two-marks}
 use Rattle.promises.specs.Searches.{ruleOf, programOf, historyOf, Held, followsOf, givesOf, Flat, Marks, Bracketed}
 
 -- ---- a method at a time

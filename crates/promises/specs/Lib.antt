@@ -6,5 +6,10 @@ pub mod Demand3
 pub mod Returned
 -- lemmas that only proofs read
 pub mod EarlyLaws
-pub mod Backing
+pub mod AnswerLaws
+pub mod BoundLaws
+pub mod EndLaws
+pub mod PairLaws
+pub mod RefusalLaws
+pub mod MarkLaws
 pub mod HistoryLaws

@@ -87,7 +87,7 @@ fn second_at(stop: StopRule, p: Sample, q: Sample, progress: Progress) -> Turn
     }
     let decided = searching::alike(p, q, progress);
     let marked = decided.progress;
-    if decided.holds {
+    if decided.decision {
         return ended(Answer::Refused(6), marked);
     }
     goes_on(
@@ -130,7 +130,7 @@ fn ordered(a: &[f64], stop: StopRule, x1: f64, x2: f64, progress: Progress) -> T
 }
 
 // The opening from any two starts.
-fn opened(a: &[f64], stop: StopRule, from: f64, to: f64, progress: Progress) -> Turn
+fn opening(a: &[f64], stop: StopRule, from: f64, to: f64, progress: Progress) -> Turn
     requires { ⌜ Room 2 progress ⌝ }
     ensures { λ r. ⌜ viewed r ≡ play tallied (oracle (now (a .entry))) (opening stop from to) progress ⌝ }
 {
@@ -321,7 +321,7 @@ pub fn find_root(a: &[f64], stop: StopRule, from: f64, to: f64) -> Outcome
     requires { ⌜ stop .limit ≤ greatestLimit ⌝ }
     ensures { λ r. ⌜ r ≡ regulaFalsi (now (a .entry)) stop from to ⌝ }
 {
-    let turn = opened(a, stop, from, to, Progress::fresh());
+    let turn = opening(a, stop, from, to, Progress::fresh());
     let leads = turn.to;
     let progress = turn.progress;
     match leads {

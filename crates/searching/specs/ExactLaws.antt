@@ -17,7 +17,7 @@ use Rattle.polynom.specs.declared.Evaluated.the-variants.{At, NotFinite}
 use Rattle.polynom.specs.declared.EvaluatedBoth.the-variants.{Both, NotBothFinite}
 use Rattle.searching.specs.Programs.{Test, found, converged, flat, alike, holds, tested, candidate, ruled, paired, stepped, Event, asked, askedBoth, noted}
 use Rattle.searching.specs.Histories.{stepsIn}
-use Rattle.searching.specs.Reasons.{Occurs, endsRun, someEnds, Calls, SignsHeld, FlatHeld, NoneHeld, NotFiniteIn, EvaluatedAt, Reason, by-value, by-width, by-middle, of-signs, of-flatness, of-limit, of-value, of-derivative, of-candidate, of-middle}
+use Rattle.searching.specs.Reasons.{Occurs, endsRun, someEnds, CalledFor, SignsHeld, FlatHeld, NoneHeld, NotFiniteIn, EvaluatedAt, Reason, by-value, by-width, by-middle, of-signs, of-flatness, of-limit, of-value, of-derivative, of-candidate, of-middle}
 
 -- ---- what ends a run fixes the answer
 
@@ -43,7 +43,7 @@ Honest stop (noted stepped) = Unit {0}
 
 -- what is so of every event of a history with this answer: its note is honest, and if it ends a run, it calls for the answer
 abbrev Says : StopRule → Answer → Event → Type 0
-Says stop answer e = Honest stop e × (endsRun stop e ≡ true → Calls e answer)
+Says stop answer e = Honest stop e × (endsRun stop e ≡ true → CalledFor e answer)
 
 not-false : (b : Bool) → not b ≡ false → b ≡ true
 not-false true e = refl
@@ -74,7 +74,7 @@ module _ (stop : StopRule) (answer : Answer) where
   before {e} q m = quiet-says e (quiet-at stop m q)
 
   -- a newest event that calls for the answer, or ends nothing
-  calling : (x : Event) {e : Event} {h : List Event} → Honest stop x → Calls x answer → (Occurs e h → Says stop answer e) → Occurs e (x ∷ h) → Says stop answer e
+  calling : (x : Event) {e : Event} {h : List Event} → Honest stop x → CalledFor x answer → (Occurs e h → Says stop answer e) → Occurs e (x ∷ h) → Says stop answer e
   calling x p c = newest (Says stop answer) x (p, λ z. c)
 
   passing : (x : Event) {e : Event} {h : List Event} → endsRun stop x ≡ false → (Occurs e h → Says stop answer e) → Occurs e (x ∷ h) → Says stop answer e
@@ -99,7 +99,7 @@ says {stop = stop} {answer = answer} (of-middle {x = x} {p = p} {q = q} n f g) e
 
 module _ {a : List Float} {stop : StopRule} {most : ℕ} {answer : Answer} {h : List Event} (r : Reason a stop most answer h) where
   -- an event that ends a run calls for the answer
-  pub decided : (e : Event) → Occurs e h → endsRun stop e ≡ true → Calls e answer
+  pub decided : (e : Event) → Occurs e h → endsRun stop e ≡ true → CalledFor e answer
   decided e m = says r e m .1
 
   -- a stop test is noted as its numbers say

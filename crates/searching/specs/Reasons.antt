@@ -46,17 +46,17 @@ someEnds stop [] = false
 someEnds stop (e ∷ h) = cond (endsRun stop e) true (someEnds stop h)
 
 -- the answer that such an event calls for; where converged held, the middle that is asked for then may still be refused
-abbrev pub Calls : Event → Answer → Type 0
-Calls (asked x e) answer = answer ≡ Refused 9
-Calls (askedBoth x e) answer = answer ≡ Refused 9
-Calls (noted (tested (found p) held)) answer = answer ≡ ByValue (p .x) (p .y)
-Calls (noted (tested (converged p q) held)) answer = ((root : Float) × (answer ≡ ByWidth root p q)) ⊎ (answer ≡ Refused 9)
-Calls (noted (tested (flat y) held)) answer = answer ≡ Refused 7
-Calls (noted (tested (alike p q) held)) answer = answer ≡ Refused 6
-Calls (noted (candidate x)) answer = answer ≡ Refused 9
-Calls (noted (ruled rule departed)) answer = ⊥
-Calls (noted (paired i)) answer = ⊥
-Calls (noted stepped) answer = ⊥
+abbrev pub CalledFor : Event → Answer → Type 0
+CalledFor (asked x e) answer = answer ≡ Refused 9
+CalledFor (askedBoth x e) answer = answer ≡ Refused 9
+CalledFor (noted (tested (found p) held)) answer = answer ≡ ByValue (p .x) (p .y)
+CalledFor (noted (tested (converged p q) held)) answer = ((root : Float) × (answer ≡ ByWidth root p q)) ⊎ (answer ≡ Refused 9)
+CalledFor (noted (tested (flat y) held)) answer = answer ≡ Refused 7
+CalledFor (noted (tested (alike p q) held)) answer = answer ≡ Refused 6
+CalledFor (noted (candidate x)) answer = answer ≡ Refused 9
+CalledFor (noted (ruled rule departed)) answer = ⊥
+CalledFor (noted (paired i)) answer = ⊥
+CalledFor (noted stepped) answer = ⊥
 
 -- ---- what a history may hold
 

@@ -36,8 +36,8 @@ unequal-differ false true = refl
 unequal-differ false false = refl
 
 -- what was decided is what the signs say
-pub decided-signs : {w : Decided} {f : Bool} (a b : Sample) (p : Progress) → w ≡ alikeBy a b p → w .holds ≡ f → sameSign (a .y) (b .y) ≡ f
-decided-signs a b p e h = sym (ap (λ (w : Decided). w .holds) e) ∙ h
+pub decided-signs : {w : Decided} {f : Bool} (a b : Sample) (p : Progress) → w ≡ alikeBy a b p → w .decision ≡ f → sameSign (a .y) (b .y) ≡ f
+decided-signs a b p e h = sym (ap (λ (w : Decided). w .decision) e) ∙ h
 
 -- ---- room that is left after a rule
 

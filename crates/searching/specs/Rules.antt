@@ -16,7 +16,7 @@ placedIn u v x p = record { x = pulled u v x; progress = ruledOf 2 (outside u v 
 
 -- rule 1: "Where the Rust tests a product of two samples' values, the port tests signs"
 abbrev pub alikeBy : Sample → Sample → Progress → Decided
-alikeBy a b p = record { holds = sameSign (a .y) (b .y); progress = ruledOf 1 (productDeparts a b) p }
+alikeBy a b p = record { decision = sameSign (a .y) (b .y); progress = ruledOf 1 (productDeparts a b) p }
 
 -- "Starts are ordered, smaller first; equal ones keep their order"
 abbrev pub inOrder : Float → Float → Starts

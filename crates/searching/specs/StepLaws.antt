@@ -167,18 +167,18 @@ module _ {S : Type 0} (cs : List Float) (p : Progress) {r : Turned S × Progress
 
   pub by-bracket-decided :
       {w : Decided} (stop : StopRule) (a b : Sample) (s : S) →
-      w ≡ alikeBy a b p → w .holds ≡ false → r ≡ (next s, w .progress) → r ≡ play tallied (oracle cs) (bracketed stop a b s) p
-  by-bracket-decided stop a b s e f g = by-bracket stop a b s refl (ap (λ (w : Decided). w .progress) e) (ap (λ (w : Decided). w .holds) e) f g
+      w ≡ alikeBy a b p → w .decision ≡ false → r ≡ (next s, w .progress) → r ≡ play tallied (oracle cs) (bracketed stop a b s) p
+  by-bracket-decided stop a b s e f g = by-bracket stop a b s refl (ap (λ (w : Decided). w .progress) e) (ap (λ (w : Decided). w .decision) e) f g
 
   pub by-bracket-decided-to :
       {w : Decided} {i : S} (stop : StopRule) (a b : Sample) (s : S) →
-      w ≡ alikeBy a b p → w .holds ≡ false → i ≡ s → r ≡ (next i, w .progress) → r ≡ play tallied (oracle cs) (bracketed stop a b s) p
+      w ≡ alikeBy a b p → w .decision ≡ false → i ≡ s → r ≡ (next i, w .progress) → r ≡ play tallied (oracle cs) (bracketed stop a b s) p
   by-bracket-decided-to stop a b s e f i g = by-bracket-decided stop a b s e f (g ∙ rw i refl)
 
   pub by-no-bracket-decided :
       {w : Decided} (stop : StopRule) (a b : Sample) (s : S) →
-      w ≡ alikeBy a b p → w .holds ≡ true → r ≡ (ended (Refused 6), w .progress) → r ≡ play tallied (oracle cs) (bracketed stop a b s) p
-  by-no-bracket-decided stop a b s e f g = by-no-bracket stop a b s refl (ap (λ (w : Decided). w .progress) e) (ap (λ (w : Decided). w .holds) e) f g
+      w ≡ alikeBy a b p → w .decision ≡ true → r ≡ (ended (Refused 6), w .progress) → r ≡ play tallied (oracle cs) (bracketed stop a b s) p
+  by-no-bracket-decided stop a b s e f g = by-no-bracket stop a b s refl (ap (λ (w : Decided). w .progress) e) (ap (λ (w : Decided). w .decision) e) f g
 
 -- all of them, for `search`
 pub ruleset steps = (by-true, by-false, by-held, by-missed, by-rule, by-pulled, by-placed, by-alike, by-value, by-no-value, by-value-at, by-no-value-at, by-both, by-not-both, by-offer, by-no-offer, by-rising, by-next, by-step, by-step-to, by-narrow, by-narrow-to, by-bracket, by-bracket-to, by-no-bracket, by-bracket-decided, by-bracket-decided-to, by-no-bracket-decided, by-done)

@@ -10,9 +10,9 @@ pub struct Placed {
     pub progress: Progress,
 }
 
-// A test of signs, and what the run has done after it.
+// What a test of signs decided, and what the run has done after it.
 pub struct Decided {
-    pub holds: bool,
+    pub decision: bool,
     pub progress: Progress,
 }
 
@@ -37,7 +37,7 @@ pub fn alike(p: Sample, q: Sample, progress: Progress) -> Decided
     let same = doubles::same_sign(p.y, q.y);
     let above = doubles::is_above(p.y * q.y);
     Decided {
-        holds: same,
+        decision: same,
         progress: progress.ruled(1, same != above),
     }
 }

@@ -92,7 +92,7 @@ fn first_at(a: &[f64], stop: StopRule, second: f64, p: Sample, progress: Progres
 }
 
 // The first start is evaluated.
-fn opened(a: &[f64], stop: StopRule, first: f64, second: f64, progress: Progress) -> Turn
+fn opening(a: &[f64], stop: StopRule, first: f64, second: f64, progress: Progress) -> Turn
     requires { ⌜ Room 2 progress ⌝ }
     ensures { λ r. ⌜ viewed r ≡ play tallied (oracle (now (a .entry))) (opening stop first second) progress ⌝ }
 {
@@ -199,7 +199,7 @@ pub fn find_root(a: &[f64], stop: StopRule, first: f64, second: f64) -> Outcome
     requires { ⌜ stop .limit ≤ greatestLimit ⌝ }
     ensures { λ r. ⌜ r ≡ secant (now (a .entry)) stop first second ⌝ }
 {
-    let turn = opened(a, stop, first, second, Progress::fresh());
+    let turn = opening(a, stop, first, second, Progress::fresh());
     let to = turn.to;
     let progress = turn.progress;
     match to {

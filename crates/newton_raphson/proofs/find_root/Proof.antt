@@ -8,8 +8,8 @@ use Rattle.newton_raphson.proofs.find_root.Tie as tie
 fresh-requires : tie.Need-fresh-requires
 fresh-requires c κs = search needs
 
-opened-requires : tie.Need-opened-requires
-opened-requires c κs = search (needs, room)
+opening-requires : tie.Need-opening-requires
+opening-requires c κs = search (needs, room)
 
 enum-known-to : tie.Need-enum-known-to
 enum-known-to c = search needs
@@ -34,7 +34,7 @@ find-root-spec =
     tie.close
     (tie.spec
     fresh-requires
-    opened-requires
+    opening-requires
     enum-known-to
     enum-known-to-2
     passes-left-requires

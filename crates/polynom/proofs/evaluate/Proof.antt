@@ -6,12 +6,12 @@ use Rattle.polynom.proofs.evaluate.Tie as tie
 value-requires : tie.Need-value-requires
 value-requires c κs = search needs
 
-kept-requires : tie.Need-kept-requires
-kept-requires c κs = search needs
+sample-if-finite-requires : tie.Need-sample-if-finite-requires
+sample-if-finite-requires c κs = search needs
 
 returns : tie.Need-returns
 unfolding evaluated
-returns c = rw (← c .before .value .ensures) (c .kept .ensures)
+returns c = rw (← c .before .value .ensures) (c .sample-if-finite .ensures)
 
 pub evaluate-spec : {M : Type 1} → statement M
-evaluate-spec = tie.close (tie.spec value-requires kept-requires returns)
+evaluate-spec = tie.close (tie.spec value-requires sample-if-finite-requires returns)

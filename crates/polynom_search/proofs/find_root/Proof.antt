@@ -9,8 +9,8 @@ use Rattle.polynom_search.proofs.find_root.Tie as tie
 fresh-requires : tie.Need-fresh-requires
 fresh-requires c κs = search needs
 
-opened-requires : tie.Need-opened-requires
-opened-requires c κs = search (needs, room)
+opening-requires : tie.Need-opening-requires
+opening-requires c κs = search (needs, room)
 
 enum-known-leads : tie.Need-enum-known-leads
 enum-known-leads c = search needs
@@ -22,20 +22,20 @@ turns-requires : tie.Need-turns-requires
 turns-requires c κs = search needs
 
 searched-requires : tie.Need-searched-requires
-searched-requires c κs = (omega (arith, c .turns .ensures), search (opened-room, small-opening, c .before .before .before .before .before .opened .ensures (c .before .before .before .before .before .before .before .before .args .stop)))
+searched-requires c κs = (omega (arith, c .turns .ensures), search (opened-room, small-opening, c .before .before .before .before .before .opening .ensures (c .before .before .before .before .before .before .before .before .args .stop)))
 
 returns : tie.Need-returns
-returns c = search (from-end, c .before .before .before .before .opened .ensures)
+returns c = search (from-end, c .before .before .before .before .opening .ensures)
 
 returns-2 : tie.Need-returns-2
-returns-2 c = search (from-state, c .before .before .before .before .before .before .opened .ensures)
+returns-2 c = search (from-state, c .before .before .before .before .before .before .opening .ensures)
 
 pub find-root-spec : {M : Type 1} → statement M
 find-root-spec =
     tie.close
     (tie.spec
     fresh-requires
-    opened-requires
+    opening-requires
     enum-known-leads
     enum-known-leads-2
     turns-requires

@@ -9,8 +9,8 @@ use Rattle.regula_falsi.proofs.find_root.Tie as tie
 fresh-requires : tie.Need-fresh-requires
 fresh-requires c κs = search needs
 
-opened-requires : tie.Need-opened-requires
-opened-requires c κs = search (needs, room)
+opening-requires : tie.Need-opening-requires
+opening-requires c κs = search (needs, room)
 
 enum-known-leads : tie.Need-enum-known-leads
 enum-known-leads c = search needs
@@ -35,7 +35,7 @@ find-root-spec =
     tie.close
     (tie.spec
     fresh-requires
-    opened-requires
+    opening-requires
     enum-known-leads
     enum-known-leads-2
     turns-requires

@@ -3,8 +3,8 @@ use Rattle.line_text.specs.ReadingLaws.{filled-within, doubles-wrong, do
 use Rattle.line_text.proofs.call.with_doubles.Statement.{statement}
 use Rattle.line_text.proofs.call.with_doubles.Tie as tie
 
-starts-requires : tie.Need-starts-requires
-starts-requires c κs = search needs
+start-count-requires : tie.Need-start-count-requires
+start-count-requires c κs = search needs
 
 add-k : tie.Need-add-k
 add-k c = search needs
@@ -40,7 +40,7 @@ pub with-doubles-spec : {M : Type 1} → statement M
 with-doubles-spec =
     tie.close
     (tie.spec
-    starts-requires
+    start-count-requires
     add-k
     add-k-2
     read-doubles-requires

@@ -51,8 +51,8 @@ shared-slice-read-method-of-2 c = search needs
 method-of-requires : tie.Need-method-of-requires
 method-of-requires c κs = search needs
 
-starts-requires : tie.Need-starts-requires
-starts-requires c κs = search needs
+start-count-requires : tie.Need-start-count-requires
+start-count-requires c κs = search needs
 
 add-eps : tie.Need-add-eps
 add-eps c = search needs
@@ -86,7 +86,7 @@ with-limit-spec =
     mul-method-of-2
     shared-slice-read-method-of-2
     method-of-requires
-    starts-requires
+    start-count-requires
     add-eps
     mul-eps
     shared-slice-read-eps

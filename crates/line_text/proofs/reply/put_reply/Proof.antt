@@ -33,8 +33,8 @@ put-outcome-requires c κs = search needs
 enum-known-why : tie.Need-enum-known-why
 enum-known-why c = search needs
 
-put-reason-requires : tie.Need-put-reason-requires
-put-reason-requires c κs = search needs
+put-fault-requires : tie.Need-put-fault-requires
+put-fault-requires c κs = search needs
 
 same-length : tie.Need-same-length
 same-length c = search needs
@@ -62,7 +62,7 @@ put-reply-spec =
     search-requires
     put-outcome-requires
     enum-known-why
-    put-reason-requires
+    put-fault-requires
     same-length
     returns
     same-length-2

@@ -1,7 +1,7 @@
 use borrow.Author.Needs.{needs}
-use Rattle.line_text.specs.TextLaws.{reason-put}
-use Rattle.line_text.proofs.text.put_reason.Statement.{statement}
-use Rattle.line_text.proofs.text.put_reason.Tie as tie
+use Rattle.line_text.specs.TextLaws.{fault-put}
+use Rattle.line_text.proofs.text.put_fault.Statement.{statement}
+use Rattle.line_text.proofs.text.put_fault.Tie as tie
 
 enum-told : tie.Need-enum-told
 enum-told c = search needs
@@ -61,40 +61,40 @@ same-length : tie.Need-same-length
 same-length c = search needs
 
 returns : tie.Need-returns
-returns c = (search reason-put, search needs)
+returns c = (search fault-put, search needs)
 
 same-length-2 : tie.Need-same-length-2
 same-length-2 c = search needs
 
 returns-2 : tie.Need-returns-2
-returns-2 c = (search reason-put, search needs)
+returns-2 c = (search fault-put, search needs)
 
 same-length-3 : tie.Need-same-length-3
 same-length-3 c = search needs
 
 returns-3 : tie.Need-returns-3
-returns-3 c = (search reason-put, search needs)
+returns-3 c = (search fault-put, search needs)
 
 same-length-4 : tie.Need-same-length-4
 same-length-4 c = search needs
 
 returns-4 : tie.Need-returns-4
-returns-4 c = (search reason-put, search needs)
+returns-4 c = (search fault-put, search needs)
 
 same-length-5 : tie.Need-same-length-5
 same-length-5 c = search needs
 
 returns-5 : tie.Need-returns-5
-returns-5 c = (search reason-put, search needs)
+returns-5 c = (search fault-put, search needs)
 
 same-length-6 : tie.Need-same-length-6
 same-length-6 c = search needs
 
 returns-6 : tie.Need-returns-6
-returns-6 c = (search reason-put, search needs)
+returns-6 c = (search fault-put, search needs)
 
-pub put-reason-spec : {M : Type 1} → statement M
-put-reason-spec =
+pub put-fault-spec : {M : Type 1} → statement M
+put-fault-spec =
     tie.close
     (tie.spec
     enum-told

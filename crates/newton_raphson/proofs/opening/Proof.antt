@@ -1,15 +1,15 @@
 use Rattle.searching.specs.StepLaws.{steps}
 use Rattle.numerical.specs.TallyLaws.{room}
-use Rattle.secant.specs.Secant.{opening}
+use Rattle.newton_raphson.specs.NewtonRaphson.{opening}
 use borrow.Author.Needs.{needs}
-use Rattle.secant.proofs.opened.Statement.{statement}
-use Rattle.secant.proofs.opened.Tie as tie
+use Rattle.newton_raphson.proofs.opening.Statement.{statement}
+use Rattle.newton_raphson.proofs.opening.Tie as tie
 
-valued-requires : tie.Need-valued-requires
-valued-requires c κs = search needs
+sloped-requires : tie.Need-sloped-requires
+sloped-requires c κs = search needs
 
-evaluate-requires : tie.Need-evaluate-requires
-evaluate-requires c κs = search needs
+evaluate-both-requires : tie.Need-evaluate-both-requires
+evaluate-both-requires c κs = search needs
 
 enum-known-e : tie.Need-enum-known-e
 enum-known-e c = search needs
@@ -29,14 +29,14 @@ first-at-requires c κs = search (needs, room)
 
 returns-2 : tie.Need-returns-2
 unfolding opening
-returns-2 c = search steps
+returns-2 c = search (steps, c .first-at .ensures)
 
-pub opened-spec : {M : Type 1} → statement M
-opened-spec =
+pub opening-spec : {M : Type 1} → statement M
+opening-spec =
     tie.close
     (tie.spec
-    valued-requires
-    evaluate-requires
+    sloped-requires
+    evaluate-both-requires
     enum-known-e
     enum-told
     ended-requires

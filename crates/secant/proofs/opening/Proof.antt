@@ -1,15 +1,15 @@
 use Rattle.searching.specs.StepLaws.{steps}
 use Rattle.numerical.specs.TallyLaws.{room}
-use Rattle.newton_raphson.specs.NewtonRaphson.{opening}
+use Rattle.secant.specs.Secant.{opening}
 use borrow.Author.Needs.{needs}
-use Rattle.newton_raphson.proofs.opened.Statement.{statement}
-use Rattle.newton_raphson.proofs.opened.Tie as tie
+use Rattle.secant.proofs.opening.Statement.{statement}
+use Rattle.secant.proofs.opening.Tie as tie
 
-sloped-requires : tie.Need-sloped-requires
-sloped-requires c κs = search needs
+valued-requires : tie.Need-valued-requires
+valued-requires c κs = search needs
 
-evaluate-both-requires : tie.Need-evaluate-both-requires
-evaluate-both-requires c κs = search needs
+evaluate-requires : tie.Need-evaluate-requires
+evaluate-requires c κs = search needs
 
 enum-known-e : tie.Need-enum-known-e
 enum-known-e c = search needs
@@ -29,14 +29,14 @@ first-at-requires c κs = search (needs, room)
 
 returns-2 : tie.Need-returns-2
 unfolding opening
-returns-2 c = search (steps, c .first-at .ensures)
+returns-2 c = search steps
 
-pub opened-spec : {M : Type 1} → statement M
-opened-spec =
+pub opening-spec : {M : Type 1} → statement M
+opening-spec =
     tie.close
     (tie.spec
-    sloped-requires
-    evaluate-both-requires
+    valued-requires
+    evaluate-requires
     enum-known-e
     enum-told
     ended-requires

@@ -1,7 +1,7 @@
 use Rattle.numerical.specs.Choices.{choices}
 use borrow.Author.Needs.{needs}
-use Rattle.polynom.proofs.kept_both.Statement.{statement}
-use Rattle.polynom.proofs.kept_both.Tie as tie
+use Rattle.polynom.proofs.both_if_finite.Statement.{statement}
+use Rattle.polynom.proofs.both_if_finite.Tie as tie
 
 is-finite-by-size-requires : tie.Need-is-finite-by-size-requires
 is-finite-by-size-requires c κs = search needs
@@ -18,6 +18,6 @@ returns-2 c = search choices
 returns-3 : tie.Need-returns-3
 returns-3 c = search choices
 
-pub kept-both-spec : {M : Type 1} → statement M
-kept-both-spec =
+pub both-if-finite-spec : {M : Type 1} → statement M
+both-if-finite-spec =
     tie.close (tie.spec is-finite-by-size-requires is-finite-by-size-requires-2 returns returns-2 returns-3)

@@ -1,7 +1,7 @@
 use Rattle.numerical.specs.Choices.{choices}
 use borrow.Author.Needs.{needs}
-use Rattle.polynom.proofs.kept.Statement.{statement}
-use Rattle.polynom.proofs.kept.Tie as tie
+use Rattle.polynom.proofs.sample_if_finite.Statement.{statement}
+use Rattle.polynom.proofs.sample_if_finite.Tie as tie
 
 is-finite-by-size-requires : tie.Need-is-finite-by-size-requires
 is-finite-by-size-requires c κs = search needs
@@ -12,5 +12,5 @@ returns c = search choices
 returns-2 : tie.Need-returns-2
 returns-2 c = search choices
 
-pub kept-spec : {M : Type 1} → statement M
-kept-spec = tie.close (tie.spec is-finite-by-size-requires returns returns-2)
+pub sample-if-finite-spec : {M : Type 1} → statement M
+sample-if-finite-spec = tie.close (tie.spec is-finite-by-size-requires returns returns-2)
