@@ -2,7 +2,7 @@
 use Prim.Native.Nat.{ℕ, _+_, _≤_}
 use mathlib.Core.Bool.{Bool, true, false}
 use mathlib.Core.List.{List, []}
-use mathlib.Core.Logic.{_↔_}
+use mathlib.Core.Logic.{_↔_, _⊎_}
 use mathlib.Core.Path.{_≡_, sym, subst}
 use lib.ListN.{length}
 use lib.Ieee.{Float, binary64, lt, sub}
@@ -24,12 +24,14 @@ use Rattle.searching.specs.Reasons.{Occurs, endsRun, CalledFor, SignsHeld, Flat
 use Rattle.searching.specs.ExactLaws.{decided, tests-honest, points-finite, exactly-by-value, exactly-by-width, exactly-six, exactly-seven, exactly-eight, exactly-nine}
 use Rattle.roots.specs.Calls.{startsOf, answer}
 use Rattle.roots.specs.declared.Method.{Method}
+use Rattle.roots.specs.declared.Method.the-variants.{RegulaFalsi}
 use Rattle.promises.specs.Searches.{ruleOf, historyOf, Passes, Held, mostValues, mostDerivatives, mostSteps, followsOf, givesOf, Flat, Marks, Bracketed, Truthful, NestedByOrder}
 use Rattle.promises.specs.EarlyLaws.{atOnce, passes-at-once}
 use Rattle.promises.specs.AnswerLaws.{counts-of, history-truthful}
 use Rattle.promises.specs.EndLaws.{reason-of, value-true, width-true}
 use Rattle.promises.specs.PairLaws.{pairs-of, pairs-nested, root-by-value, root-by-width}
 use Rattle.promises.specs.BoundLaws.{values-within, derivatives-within}
+use Rattle.promises.specs.MarkLaws.{two-marks}
 use Rattle.promises.specs.HistoryLaws.{events-of, width-of, values-listed, pairs-there, pairs-none, flat-of, marks-of, six-of}
 
 -- ---- all five methods
@@ -150,3 +152,7 @@ module _ (a : List Float) (m : Method) (eps : Float) (limit : ℕ) (passes : Pas
         root-between-by-value = root-by-value a m eps limit z doubles u v starts;
         root-between-by-width = root-by-width a m eps limit z doubles u v starts;
       }
+
+-- ---- of every call, 1 to 5 or not: Illinois has mark 0 or 2 and never 1, since its values and weights are too large for their product to round to zero
+pub illinois-marks : (a : List Float) (from to eps : Float) (limit : ℕ) → (answer a (RegulaFalsi from to) eps limit .progress .mark ≡ 0) ⊎ (answer a (RegulaFalsi from to) eps limit .progress .mark ≡ 2)
+illinois-marks a from to eps limit = two-marks a from to eps limit

@@ -94,6 +94,3 @@ module _ (a : List Float) (m : Method) (eps : Float) (limit : ℕ) (z : atOnce a
 
     pub six-told : answer a m eps limit .answer ≡ Refused 6 → sameSign (value a u) (value a v) ≡ true
     six-told e = subst (λ (x : Answer). Told a u v x) e (bracket-of .told) .0 refl
-
-    pub never-seven : ¬ (answer a m eps limit .answer ≡ Refused 7)
-    never-seven e = subst (λ (x : Answer). Told a u v x) e (bracket-of .told) .1 refl
