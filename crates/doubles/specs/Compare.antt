@@ -143,6 +143,9 @@ finite-num (fin s m e) h = tt
 
 le-not-lt : (x y : Float) → Num x → Num y → le x y ≡ not (lt y x)
 unfolding le isNan
+le-not-lt nan y p q = absurd p
+le-not-lt (inf s) nan p q = absurd q
+le-not-lt (fin s m e) nan p q = absurd q
 le-not-lt (inf true) (inf true) p q = refl
 le-not-lt (inf true) (inf false) p q = refl
 le-not-lt (inf false) (inf true) p q = refl

@@ -1,7 +1,7 @@
 -- Every Newton history has its events in order.
 use mathlib.Core.List.{List, []}
 use mathlib.Core.Logic.{inl, inr}
-use mathlib.Core.Path.{refl}
+use mathlib.Core.Path.{_≡_, refl}
 use lib.Ieee.{Float}
 use Rattle.polynom.specs.declared.ValueAndDerivative.{ValueAndDerivative}
 use Rattle.simple_convergency.specs.declared.StopRule.{StopRule}
@@ -40,17 +40,17 @@ module _ (a : List Float) (stop : StopRule) (start : Float) where
         (λ e. ends-stops stop _ (λ f. ends-done (record { each = ((v, l, refl), ((v, l, refl), o)); width = tt }))
         (λ f. traces-onward _ l ((v, l, refl), ((v, l, refl), o))))
 
-    traces-first : (h : List Event) → SampledBoth v h → Orders h → Reaches (firstAt stop v) h
+    traces-first : (h : List Event) → SampledBoth v h → candidatesIn h ≡ [] → Orders h → Reaches (firstAt stop v) h
     unfolding firstAt nudge nudgedTo evaluationsIn candidatesIn
-    traces-first h l o =
+    traces-first h l n o =
         ends-stops stop _ (λ e. ends-done (record { each = ((v, l, refl), o); width = tt }))
         (λ e. ends-test _
-        (λ f. ends-offered _ _ (λ c. record { each = ((v, l, inr refl), ((v, l, refl), o)); width = tt }) (λ c. ends-steps _ ((tt, ((v, l, inr refl), ((v, l, refl), o))), (_, refl))))
+        (λ f. ends-offered _ _ (λ c. record { each = ((v, l, inr (n, refl)), ((v, l, refl), o)); width = tt }) (λ c. ends-steps _ ((tt, ((v, l, inr (n, refl)), ((v, l, refl), o))), (_, refl))))
         (λ f. traces-onward _ l ((v, l, refl), o)))
 
   traces-opening : Reaches (opening stop start) []
-  unfolding opening evaluationsIn
-  traces-opening = ends-both start (λ n. record { each = (inl (refl, refl), tt); width = tt }) (λ v n. traces-first v _ (start, _, refl) (inl (refl, refl), tt))
+  unfolding opening evaluationsIn candidatesIn
+  traces-opening = ends-both start (λ n. record { each = (inl (refl, refl), tt); width = tt }) (λ v n. traces-first v _ (start, _, refl) refl (inl (refl, refl), tt))
 
   traces-turn : (s : Spot) (h : List Event) → Inv s h → Reaches (turnFrom stop s) h
   unfolding turnFrom evaluationsIn

@@ -16,7 +16,7 @@ use Rattle.simple_convergency.specs.StopLaws.{Passed, passed}
 use Rattle.simple_convergency.specs.declared.StopRule.{StopRule}
 use Rattle.simple_convergency.specs.declared.Checked.{Checked}
 use Rattle.simple_convergency.specs.declared.Checked.the-variants.{Rule, Refused}
-use Rattle.roots.specs.Calls.{allFinite, startsOf, foundBy, foundUnder}
+use Rattle.roots.specs.Calls.{badCount, allFinite, startsOf, foundBy, foundUnder, answer}
 use Rattle.roots.specs.declared.Method.{Method}
 
 -- ---- the coefficients from i on
@@ -65,14 +65,33 @@ one-finite x e = e ∙ go (finite x)
 pub by-method : {r : Outcome} (a : List Float) (stop : StopRule) (m : Method) {n : Method} → m ≡ n → r ≡ foundBy a stop n → r ≡ foundBy a stop m
 by-method a stop m e k = rw e k
 
--- ---- by what the stop rule's check gave
+-- ---- 1 to 5 in their order: each answer with the tests that were made before it
 
-module _ (a : List Float) (m : Method) (eps : Float) (limit : ℕ) {c : Checked} {r : Outcome} (e : c ≡ checkedOf eps limit) where
-  pub by-rule : {stop : StopRule} → c ≡ Rule stop → r ≡ foundBy a stop m → r ≡ foundUnder a m (checkedOf eps limit)
-  by-rule k g = g ∙ ap (foundUnder a m) (sym k ∙ e)
+module _ (a : List Float) (m : Method) (eps : Float) (limit : ℕ) {r : Outcome} {bad : Bool} (e : bad ≡ badCount (length a)) where
+  pub count-refused : bad ≡ true → r ≡ refusedAtOnce 1 → r ≡ answer a m eps limit
+  unfolding answer
+  count-refused t k = rw (← e, t) k
 
-  pub by-refusal : {n : ℕ} → c ≡ Refused n → r ≡ refusedAtOnce n → r ≡ foundUnder a m (checkedOf eps limit)
-  by-refusal k g = g ∙ ap (foundUnder a m) (sym k ∙ e)
+  module _ (t : bad ≡ false) {all : Bool} (f : all ≡ allFinite a) where
+    pub coefficient-refused : all ≡ false → r ≡ refusedAtOnce 2 → r ≡ answer a m eps limit
+    unfolding answer
+    coefficient-refused u k = rw (← e, t, ← f, u) k
+
+    module _ (u : all ≡ true) {starts : Bool} (g : starts ≡ allFinite (startsOf m)) where
+      pub start-refused : starts ≡ false → r ≡ refusedAtOnce 3 → r ≡ answer a m eps limit
+      unfolding answer
+      start-refused v k = rw (← e, t, ← f, u, ← g, v) k
+
+      module _ (v : starts ≡ true) {c : Checked} (h : c ≡ checkedOf eps limit) where
+        under : r ≡ foundUnder a m c → r ≡ answer a m eps limit
+        unfolding answer
+        under k = rw (← e, t, ← f, u, ← g, v, ← h) k
+
+        pub by-rule : {stop : StopRule} → c ≡ Rule stop → r ≡ foundBy a stop m → r ≡ answer a m eps limit
+        by-rule q k = under (k ∙ ap (foundUnder a m) (sym q))
+
+        pub by-refusal : {n : ℕ} → c ≡ Refused n → r ≡ refusedAtOnce n → r ≡ answer a m eps limit
+        by-refusal q k = under (k ∙ ap (foundUnder a m) (sym q))
 
 -- ---- what a rule that was checked keeps to
 

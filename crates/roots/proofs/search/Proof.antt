@@ -1,8 +1,6 @@
-use Rattle.numerical.specs.Choices.{choices}
 use borrow.Author.Needs.{needs}
 use borrow.Author.Tests.{not-true, not-false}
-use Rattle.roots.specs.Calls.{answer}
-use Rattle.roots.specs.CallLaws.{by-rule, by-refusal, limit-kept}
+use Rattle.roots.specs.CallLaws.{count-refused, coefficient-refused, start-refused, by-rule, by-refusal, limit-kept}
 use Rattle.roots.proofs.search.Statement.{statement}
 use Rattle.roots.proofs.search.Tie as tie
 
@@ -13,8 +11,7 @@ refused-at-once-requires : tie.Need-refused-at-once-requires
 refused-at-once-requires c κs = search needs
 
 returns : tie.Need-returns
-unfolding answer
-returns c = search choices
+returns c = search count-refused
 
 all-finite-requires : tie.Need-all-finite-requires
 all-finite-requires c κs = search needs
@@ -23,8 +20,7 @@ refused-at-once-requires-2 : tie.Need-refused-at-once-requires-2
 refused-at-once-requires-2 c κs = search needs
 
 returns-2 : tie.Need-returns-2
-unfolding answer
-returns-2 c = search (choices, not-true)
+returns-2 c = search (coefficient-refused, not-true)
 
 starts-finite-requires : tie.Need-starts-finite-requires
 starts-finite-requires c κs = search needs
@@ -33,8 +29,7 @@ refused-at-once-requires-3 : tie.Need-refused-at-once-requires-3
 refused-at-once-requires-3 c κs = search needs
 
 returns-3 : tie.Need-returns-3
-unfolding answer
-returns-3 c = search (choices, not-true, not-false)
+returns-3 c = search (start-refused, not-true, not-false)
 
 checked-requires : tie.Need-checked-requires
 checked-requires c κs = search needs
@@ -52,12 +47,10 @@ refused-at-once-requires-4 : tie.Need-refused-at-once-requires-4
 refused-at-once-requires-4 c κs = search needs
 
 returns-4 : tie.Need-returns-4
-unfolding answer
-returns-4 c = search (choices, not-false, by-rule)
+returns-4 c = search (by-rule, not-false)
 
 returns-5 : tie.Need-returns-5
-unfolding answer
-returns-5 c = search (choices, not-false, by-refusal)
+returns-5 c = search (by-refusal, not-false)
 
 pub search-spec : {M : Type 1} → statement M
 search-spec =

@@ -1,10 +1,10 @@
 -- `roots::search_plain` meets its contract. Assumes nothing.
-use borrow.Author.Needs.{needs}
+use Prim.{tt}
 use Rattle.roots.proofs.search_plain.Statement.{statement}
 use Rattle.roots.proofs.search_plain.Tie as tie
 
 search-requires : tie.Need-search-requires
-search-requires c κs = search needs
+search-requires c κs = tt
 
 returns : tie.Need-returns
 returns c = c .search .ensures

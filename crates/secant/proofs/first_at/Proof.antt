@@ -1,4 +1,4 @@
-use Rattle.searching.specs.StepLaws.{steps}
+use Rattle.searching.specs.StepLaws.{steps, by-missed, by-no-value}
 use Rattle.secant.specs.Secant.{firstAt}
 use borrow.Author.Needs.{needs}
 use Rattle.secant.proofs.first_at.Statement.{statement}
@@ -31,7 +31,7 @@ ended-requires c κs = search needs
 
 returns-2 : tie.Need-returns-2
 unfolding firstAt
-returns-2 c = search steps
+returns-2 c = search (by-missed, by-no-value)
 
 second-at-requires : tie.Need-second-at-requires
 second-at-requires c κs = search needs
