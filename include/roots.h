@@ -62,7 +62,8 @@ enum roots_refusal {
 /* What stands where in tallies. Steps and evaluations are counted apart. */
 enum roots_tally {
     ROOTS_STEPS = 0,       /* completed steps */
-    ROOTS_VALUES = 1,      /* polynomial values worked out: 802 at most */
+    ROOTS_VALUES = 1,      /* polynomial values as the rules count them: 802 at most; Brent's kept */
+                           /* end counts once more a step, though it is not worked out again */
     ROOTS_DERIVATIVES = 2, /* derivatives worked out: 400 at most */
     ROOTS_MARK = 3         /* 0, or the first rule by which the run left the Rust's way: 1 signs */
                            /* decided, and not a product; 2 a point was pulled to the nearer end */

@@ -1,21 +1,22 @@
 -- Every Brent history has its events in order, a pair for the opening and one for each step, and c is the earlier b.
 use mathlib.Core.Bool.{Bool}
 use mathlib.Core.List.{List, [], _∷_}
-use mathlib.Core.Logic.{inl, inr}
-use mathlib.Core.Path.{_≡_, refl}
+use mathlib.Core.Logic.{_⊎_, inl, inr}
+use mathlib.Core.Path.{_≡_, refl, _∙_}
 use lib.Ieee.{Float}
 use Rattle.doubles.specs.Doubles.{oppositeSign}
+use Rattle.numerical.specs.declared.Interval.{Interval}
 use Rattle.numerical.specs.declared.Sample.{Sample}
 use Rattle.polynom.specs.declared.Evaluated.the-variants.{At}
 use Rattle.simple_convergency.specs.Stop.{turnsOf}
 use Rattle.simple_convergency.specs.declared.StopRule.{StopRule}
 use Rattle.searching.specs.Programs.{found, converged, oracle, Event, asked, Prog, Turned, narrowsTo}
 use Rattle.searching.specs.Brackets.{pairsIn}
-use Rattle.searching.specs.Events.{evaluationsIn, candidatesIn, Sampled, OfStarts, PointsOf, PulledNow, Traced, Opening, Tracing}
+use Rattle.searching.specs.Events.{evaluationsIn, candidatesIn, evaluatedSince, Tried, Answered, OfStarts, PointsOf, PulledNow, Traced, Opening, Tracing}
 use Rattle.searching.specs.EventLaws.{opening-none, opening-value, tracing-newest, tracing-value, tracing-stops, tracing-candidate, tracing-ruled, tracing-narrows, traced-end, traced-bracketed}
 use Rattle.searching.specs.Keeps.{Ends, After, ends-done, ends-test, ends-searches}
 use Rattle.brent.specs.Brent.{arrange, pairOf, startOf, opened, secondAt, firstAt, opening, nextOf, keptA, keptB, arrived, landed, pulledIn, stepWith, stepFrom, turnFrom, brentProgram}
-use Rattle.brent.specs.BrentEvents.{Follows, IsC, Gives}
+use Rattle.brent.specs.BrentEvents.{Arrangement, Follows, IsC, Gives}
 use Rattle.brent.specs.BrentKeeps.{either-way}
 use Rattle.brent.specs.declared.Arranged.{Arranged}
 use Rattle.brent.specs.declared.Brent.{Brent}
@@ -24,25 +25,27 @@ module _ (a : List Float) (stop : StopRule) (from to : Float) where
   abbrev Stands : Brent → List Event → Type 0
   Stands s h = Tracing (Follows from to) (pairOf s) h
 
-  -- the newest pair is the state's, and c the earlier b
+  -- the newest pair is the state's, c the earlier b, and the candidate before was evaluated
   abbrev Inv : Brent → List Event → Type 0
-  Inv s h = Stands s h × IsC (s .c .x) (pairsIn h)
+  Inv s h = Stands s h × IsC (s .c .x) (pairsIn h) × Tried h
 
   abbrev Reaches : Prog (Turned Brent) → List Event → Type 0
   Reaches g h = Ends (oracle a) (After Inv (Traced (Follows from to) Gives)) g h
 
   -- ---- the opening
-  traces-opened : (r : Arranged) (h : List Event) → OfStarts (r .a) (r .b) h → Opening (Follows from to) h → Reaches (opened stop r) h
+  traces-opened : (r : Arranged) (h : List Event) → OfStarts (r .a) (r .b) h → Tried h → Opening (Follows from to) h → Reaches (opened stop r) h
   unfolding opened startOf evaluationsIn
-  traces-opened r h l o = traced-bracketed stop (record { begin = r .a; end = r .b }) _ (λ d. inl refl) (λ d c. l) (λ h2. tt) o (λ h2 n t. (t, rw n refl))
+  traces-opened r h l z o =
+      traced-bracketed stop (record { begin = r .a; end = r .b }) _ (λ d. inl refl) (λ d c. l) (λ d c. inl l) o
+      (λ h2 n f t. (t, rw n refl, (z .0, z .1, f ∙ z .2)))
 
-  traces-second : (p q : Sample) (h : List Event) → evaluationsIn h ≡ asked to (At q) ∷ asked from (At p) ∷ [] → Opening (Follows from to) h → Reaches (secondAt stop p q) h
+  traces-second : (p q : Sample) (h : List Event) → evaluationsIn h ≡ asked to (At q) ∷ asked from (At p) ∷ [] → Tried h → Opening (Follows from to) h → Reaches (secondAt stop p q) h
   unfolding secondAt
-  traces-second p q h l o = either-way (λ r. Reaches (opened stop r) h) p q (traces-opened _ h (from, to, inl l) o) (traces-opened _ h (from, to, inr l) o)
+  traces-second p q h l z o = either-way (λ r. Reaches (opened stop r) h) p q (traces-opened _ h (from, to, inl l) z o) (traces-opened _ h (from, to, inr l) z o)
 
   traces-first : (p : Sample) (h : List Event) → evaluationsIn h ≡ asked from (At p) ∷ [] → Opening (Follows from to) h → Reaches (firstAt stop to p) h
-  unfolding firstAt evaluationsIn
-  traces-first p h l o = opening-value to (λ e. inr (inl (At p, l, refl))) o (λ q b. traces-second p q _ (rw l refl) b)
+  unfolding firstAt evaluationsIn evaluatedSince
+  traces-first p h l o = opening-value to (λ e. inr (inl (At p, l, refl))) o (λ q b. traces-second p q _ (rw l refl) (_, _, refl) b)
 
   traces-opening : Reaches (opening stop from to) []
   unfolding opening evaluationsIn
@@ -51,38 +54,46 @@ module _ (a : List Float) (stop : StopRule) (from to : Float) where
   -- ---- a step
   module _ (s : Brent) where
     -- to the next pair, whichever of the two samples comes first, and the earlier b becomes c
-    traces-next : (flag : Bool) (p q : Sample) (h : List Event) → Stands s h → Reaches (narrowsTo pairOf (nextOf s flag (arrange p q))) h
-    unfolding nextOf pairsIn
-    traces-next flag p q h t = tracing-narrows pairOf _ tt tt t (λ u. (u, rw (t .newest) refl))
+    traces-next :
+        (flag : Bool) (p q : Sample) (h : List Event) →
+        ((i : Interval) → (i ≡ record { begin = p; end = q }) ⊎ (i ≡ record { begin = q; end = p }) → Arrangement i h) → Tried h → Stands s h →
+        Reaches (narrowsTo pairOf (nextOf s flag (arrange p q))) h
+    unfolding nextOf pairsIn evaluatedSince
+    traces-next flag p q h f z t =
+        either-way (λ r. Reaches (narrowsTo pairOf (nextOf s flag r)) h) p q
+        (tracing-narrows pairOf _ (inr (f _ (inl refl))) (_, _, refl) t (λ u. (u, rw (t .newest) refl, z)))
+        (tracing-narrows pairOf _ (inr (f _ (inr refl))) (_, _, refl) t (λ u. (u, rw (t .newest) refl, z)))
 
-    traces-arrived : (flag : Bool) (p : Sample) (h : List Event) → Sampled p h → Stands s h → Reaches (arrived s flag p) h
-    unfolding arrived keptA keptB evaluationsIn pairsIn
-    traces-arrived flag p h l t =
+    traces-arrived : (flag : Bool) (p : Sample) (h : List Event) → Answered p h → Stands s h → Reaches (arrived s flag p) h
+    unfolding arrived keptA keptB evaluatedSince pairsIn
+    traces-arrived flag p h (x, l) t =
         tracing-ruled _ (inl refl) t
         (λ u. ends-test (oppositeSign (s .a .y) (p .y))
-        (λ e. tracing-value (s .a .x) (λ v. inr (inr (inr (pairOf s, p, tracing-newest t, l, rw e refl)))) u (λ q w. traces-next flag q p _ w))
-        (λ e. tracing-value (s .b .x) (λ v. inr (inr (inr (pairOf s, p, tracing-newest t, l, rw e refl)))) u (λ q w. traces-next flag p q _ w)))
+        (λ e. tracing-value (s .a .x) (λ v. inr (inr (inr (pairOf s, p, tracing-newest t, (x, l), rw e refl)))) u
+        (λ q w. traces-next flag q p _ (λ i k. (p, q, (x, s .a .x, rw l refl), elim k [ inl e ↦ inr e | inr e ↦ inl e ])) (_, _, refl) w))
+        (λ e. tracing-value (s .b .x) (λ v. inr (inr (inr (pairOf s, p, tracing-newest t, (x, l), rw e refl)))) u
+        (λ q w. traces-next flag p q _ (λ i k. (p, q, (x, s .b .x, rw l refl), k)) (_, _, refl) w)))
 
     traces-landed : (flag : Bool) (x : Float) (h : List Event) → PulledNow x h → Stands s h → Reaches (landed s flag x) h
-    unfolding landed evaluationsIn
-    traces-landed flag x h k t = tracing-value x (λ e. inr (inr (inl k))) t (λ p u. traces-arrived flag p _ (x, _, refl) u)
+    unfolding landed evaluatedSince
+    traces-landed flag x h k t = tracing-value x (λ e. inr (inr (inl k))) t (λ p u. traces-arrived flag p _ (x, rw (k .3 .1) refl) u)
 
-    traces-with : (bisecting : Bool) (guess : Float) (h : List Event) → Stands s h → Reaches (stepWith s bisecting guess) h
-    unfolding stepWith pulledIn pairsIn candidatesIn
-    traces-with bisecting guess h t =
+    traces-with : (bisecting : Bool) (guess : Float) (h : List Event) → Tried h → Stands s h → Reaches (stepWith s bisecting guess) h
+    unfolding stepWith pulledIn pairsIn candidatesIn evaluatedSince
+    traces-with bisecting guess h z t =
         let n = tracing-newest t in
-        tracing-candidate (landed s bisecting) _ _ _ (pairOf s, n) (inr (refl, (pairOf s, _, n, (_, refl), refl))) t
-        (λ u. traces-landed bisecting _ _ (pairOf s, _, n, (_, refl), refl) u)
+        tracing-candidate (landed s bisecting) _ _ _ ((pairOf s, n), z) (inr (refl, (pairOf s, _, n, (_, refl), refl))) t
+        (λ u. traces-landed bisecting _ _ (pairOf s, _, n, ((_, refl), refl), refl) u)
 
     traces-turn : (h : List Event) → Inv s h → Reaches (turnFrom stop s) h
-    unfolding turnFrom stepFrom pairsIn
-    traces-turn h (t, c) =
+    unfolding turnFrom stepFrom pairsIn evaluatedSince
+    traces-turn h (t, c, z) =
         let n = tracing-newest t in
         let points : PointsOf (s .a .x) (s .b .x) h = (pairOf s, n, refl, refl) in
         tracing-stops stop (found (s .a)) (λ b. refl) (λ b. (pairOf s, n, inl refl)) t (λ u. ends-done (traced-end tt u))
         (λ u. tracing-stops stop (found (s .b)) (λ b. refl) (λ b. (pairOf s, n, inr refl)) u (λ v. ends-done (traced-end tt v))
         (λ v. tracing-stops stop (converged (s .a .x) (s .b .x)) (λ b. refl) (λ b. points) v (λ w. ends-done (traced-end (points, c) w))
-        (λ w. traces-with _ _ _ w)))
+        (λ w. traces-with _ _ _ z w)))
 
   -- every search of Brent's method
   pub brent-traced : Ends (oracle a) (Traced (Follows from to) Gives) (brentProgram stop from to) []

@@ -4,7 +4,7 @@ use mathlib.Core.Bool.{Bool, cond, _&&_}
 use lib.Dec.{eqb}
 use Rattle.numerical.specs.declared.Progress.{Progress}
 
--- before anything was done: "carrying all zero"
+-- before anything was done: all zero
 abbrev pub fresh : Progress
 fresh = record { tally = record { steps = record { 0 = 0 }; values = record { 0 = 0 }; derivatives = record { 0 = 0 } }; mark = 0 }
 

@@ -1,4 +1,4 @@
--- Values that the definitions compute: x^2 - 2 at 2, Horner's order told apart, and (a * n) * xn1 from a * (n * xn1).
+-- Values that the definitions compute: x^2 - 2 at 2, and its derivative there.
 use mathlib.Core.Path.{_≡_, refl}
 use mathlib.Core.List.{[], _∷_}
 use lib.Ieee.{binary64, ofBits, add, mul}

@@ -3,7 +3,7 @@ use Prim.Native.Nat.{ℕ, suc}
 use native.Mathlib.Omega.{arith}
 use mathlib.Core.Bool.{Bool, true, false, cond, false≢true}
 use mathlib.Core.List.{List, [], _∷_}
-use mathlib.Core.Logic.{inl, inr}
+use mathlib.Core.Logic.{_⊎_, inl, inr}
 use mathlib.Core.Path.{_≡_, refl, _∙_}
 use lib.Dec.{T}
 use lib.Ieee.{Float, nan, inf, fin, binary64, lt, le, ne}
@@ -76,6 +76,15 @@ module _ (i : Interval) (p : Sample) where
       go : (s : Bool) → sameSign (i .begin .y) (p .y) ≡ s → sameSign (replacedOf i p .begin .y) (replacedOf i p .end .y) ≡ false
       go true e = rw e (shared-replaced (i .begin .y) (i .end .y) (p .y) (same-symmetric (p .y) (i .begin .y) ∙ e) k)
       go false e = rw e e
+
+  -- the next pair is this one with the sample in the place of one end
+  pub replaced-one : (replacedOf i p ≡ record { begin = p; end = i .end }) ⊎ (replacedOf i p ≡ record { begin = i .begin; end = p })
+  unfolding replacedOf
+  replaced-one = go (sameSign (i .begin .y) (p .y)) refl
+    where
+      go : (s : Bool) → sameSign (i .begin .y) (p .y) ≡ s → (replacedOf i p ≡ record { begin = p; end = i .end }) ⊎ (replacedOf i p ≡ record { begin = i .begin; end = p })
+      go true e = inl (rw e refl)
+      go false e = inr (rw e refl)
 
   replaced-fit : {a : List Float} → Backed a i → Fit a i p → Fit a i (replacedOf i p .begin) × Fit a i (replacedOf i p .end)
   unfolding replacedOf

@@ -57,6 +57,15 @@ replaced-ends P s p l r n = go (sameSign (p .y) (s .left .at .y)) refl
     go true e = rw (e, right-at) (n, r)
     go false e = rw (e, left-at) (l, n)
 
+-- the next pair is this one with the sample in the place of one end
+pub replaced-one : (s : Illinois) (p : Sample) → (pairOf (replacedOf s p) ≡ record { begin = p; end = s .right .at }) ⊎ (pairOf (replacedOf s p) ≡ record { begin = s .left .at; end = p })
+unfolding replacedOf
+replaced-one s p = go (sameSign (p .y) (s .left .at .y))
+  where
+    go : (b : Bool) → (pairOf (cond b (leftReplaced s p) (rightReplaced s p)) ≡ record { begin = p; end = s .right .at }) ⊎ (pairOf (cond b (leftReplaced s p) (rightReplaced s p)) ≡ record { begin = s .left .at; end = p })
+    go true = inl (rw right-at refl)
+    go false = inr (rw left-at refl)
+
 -- a quotient fits its format
 candidate-held : (s : Illinois) → T (fits binary64 (candidateOf s))
 unfolding candidateOf

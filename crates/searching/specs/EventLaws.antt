@@ -22,7 +22,7 @@ use Rattle.polynom.specs.declared.ValueAndDerivative.{ValueAndDerivative}
 use Rattle.searching.specs.Programs.{Test, found, converged, flat, alike, tested, candidate, ruled, paired, stepped, log, Event, asked, askedBoth, noted, Prog, Turned, stops, valueAt, bothAt, offered, pulledInto, bracketed, narrowsTo, Oracle}
 use Rattle.searching.specs.Histories.{valuesIn, stepsIn, markIn}
 use Rattle.searching.specs.Brackets.{pairsIn}
-use Rattle.searching.specs.Events.{signsMissed, evaluationsIn, Newest, Each, Width, BeforePairs, Traced, Opening, Tracing}
+use Rattle.searching.specs.Events.{signsMissed, evaluationsIn, evaluatedSince, Newest, Each, Width, BeforePairs, Traced, Opening, Tracing}
 use Rattle.searching.specs.Keeps.{Ends, After, ends-log, ends-stops, ends-value, ends-both, ends-offered, ends-pulled, ends-bracketed, ends-narrows}
 
 -- an event that is no pair, no step and no sign test
@@ -160,15 +160,15 @@ module _ {Follows : Event → List Event → Type 0} where
         (stop : StopRule) (i : Interval) (s : S) →
         ((departed : Bool) → Follows (noted (ruled 1 departed)) h) →
         ((departed held : Bool) → Follows (noted (tested (alike (i .begin) (i .end)) held)) (noted (ruled 1 departed) ∷ h)) →
-        ((h2 : List Event) → Follows (noted (paired i)) h2) →
-        Opening Follows h → ((h2 : List Event) → pairsIn h2 ≡ i ∷ [] → Tracing Follows i h2 → Inv s h2) →
+        ((departed held : Bool) → Follows (noted (paired i)) (noted (tested (alike (i .begin) (i .end)) held) ∷ noted (ruled 1 departed) ∷ h)) →
+        Opening Follows h → ((h2 : List Event) → pairsIn h2 ≡ i ∷ [] → evaluatedSince h2 ≡ evaluatedSince h → Tracing Follows i h2 → Inv s h2) →
         Ends o (After Inv (Traced Follows Gives)) (bracketed stop (i .begin) (i .end) s) h
-    unfolding pairsIn stepsIn signsMissed
+    unfolding pairsIn stepsIn signsMissed evaluatedSince
     traced-bracketed stop i s r t p b f =
         ends-bracketed s stop (i .begin) (i .end)
         (λ e. traced-early (inl refl) tt (record { each = (t _ true, (r _, b .each)); no-pair = b .no-pair; no-step = b .no-step; no-signs = b .no-signs }))
         (λ e. let n : i ∷ pairsIn h ≡ i ∷ [] = ap (λ (l : List Interval). i ∷ l) (b .no-pair) in
-        f _ n (record { each = (p _, (t _ false, (r _, b .each))); older = []; newest = n; count = sym (b .no-step); signs = refl }))
+        f _ n refl (record { each = (p _ false, (t _ false, (r _, b .each))); older = []; newest = n; count = sym (b .no-step); signs = refl }))
 
     -- the same with a pair
     module _ {i : Interval} where

@@ -39,6 +39,17 @@ candidatesIn (noted (ruled rule departed) ∷ h) = candidatesIn h
 candidatesIn (noted (paired i) ∷ h) = candidatesIn h
 candidatesIn (noted stepped ∷ h) = candidatesIn h
 
+-- the evaluations since the newest candidate, newest first; before any candidate, all
+unfoldable pub evaluatedSince : List Event → List Event
+evaluatedSince [] = []
+evaluatedSince (asked x e ∷ h) = asked x e ∷ evaluatedSince h
+evaluatedSince (askedBoth x e ∷ h) = askedBoth x e ∷ evaluatedSince h
+evaluatedSince (noted (tested t held) ∷ h) = evaluatedSince h
+evaluatedSince (noted (candidate x) ∷ h) = []
+evaluatedSince (noted (ruled rule departed) ∷ h) = evaluatedSince h
+evaluatedSince (noted (paired i) ∷ h) = evaluatedSince h
+evaluatedSince (noted stepped ∷ h) = evaluatedSince h
+
 -- whether the opening sign test was made and did not hold
 unfoldable pub signsMissed : List Event → Bool
 signsMissed [] = false
@@ -62,6 +73,14 @@ Newest i h = (older : List Interval) × (pairsIn h ≡ i ∷ older)
 -- x is the newest candidate
 abbrev pub Candidate : Float → List Event → Type 0
 Candidate x h = (older : List Float) × (candidatesIn h ≡ x ∷ older)
+
+-- x is the newest candidate, and nothing was evaluated since
+abbrev pub Untried : Float → List Event → Type 0
+Untried x h = Candidate x h × (evaluatedSince h ≡ [])
+
+-- the newest candidate, if there is one, was evaluated
+abbrev pub Tried : List Event → Type 0
+Tried h = (e : Event) × (older : List Event) × (evaluatedSince h ≡ e ∷ older)
 
 -- p is the sample that the newest evaluation answered
 abbrev pub Sampled : Sample → List Event → Type 0
@@ -108,17 +127,33 @@ EndOf p h = (i : Interval) × Newest i h × ((p ≡ i .begin) ⊎ (p ≡ i .end)
 abbrev pub PointsOf : Float → Float → List Event → Type 0
 PointsOf p q h = (i : Interval) × Newest i h × (p ≡ i .begin .x) × (q ≡ i .end .x)
 
--- x is the newest candidate, pulled into the newest pair
+-- x is the newest candidate, pulled into the newest pair, and nothing was evaluated since
 abbrev pub PulledNow : Float → List Event → Type 0
-PulledNow x h = (i : Interval) × (c : Float) × Newest i h × Candidate c h × (x ≡ pulled (i .begin .x) (i .end .x) c)
+PulledNow x h = (i : Interval) × (c : Float) × Newest i h × Untried c h × (x ≡ pulled (i .begin .x) (i .end .x) c)
+
+-- p alone was evaluated since the newest candidate
+abbrev pub Answered : Sample → List Event → Type 0
+Answered p h = (x : Float) × (evaluatedSince h ≡ asked x (At p) ∷ [])
+
+-- v alone was worked out since the newest candidate
+abbrev pub AnsweredBoth : ValueAndDerivative → List Event → Type 0
+AnsweredBoth v h = (x : Float) × (evaluatedSince h ≡ askedBoth x (Both v) ∷ [])
+
+-- i is the newest pair with p in the place of one of its ends
+abbrev pub Replaced : Sample → Interval → List Event → Type 0
+Replaced p i h = (j : Interval) × Newest j h × ((i ≡ record { begin = p; end = j .end }) ⊎ (i ≡ record { begin = j .begin; end = p }))
 
 -- an added rule is rule 1, or rule 2 of the newest candidate and the newest pair
 abbrev pub Rules : ℕ → Bool → List Event → Type 0
 Rules rule departed h = (rule ≡ 1) ⊎ ((rule ≡ 2) × ((i : Interval) × (c : Float) × Newest i h × Candidate c h × (departed ≡ outside (i .begin .x) (i .end .x) c)))
 
--- there is a pair
+-- there is a pair, and the candidate before was evaluated
 abbrev pub Paired : List Event → Type 0
-Paired h = (i : Interval) × Newest i h
+Paired h = ((i : Interval) × Newest i h) × Tried h
+
+-- a pair was just noted
+abbrev pub AfterPair : List Event → Type 0
+AfterPair h = (i : Interval) × (before : List Event) × (h ≡ noted (paired i) ∷ before)
 
 -- ---- whole histories
 
