@@ -14,8 +14,8 @@
 extern "C" {
 #endif
 
-/* The version of this interface: roots_version() of a matching archive returns it. */
-#define ROOTS_VERSION 1
+/* The version of this interface: roots_version() of a matching archive returns it. In version 1 Brent counted 2 values a step. */
+#define ROOTS_VERSION 2
 
 /* The limits of the stop rule: 2^-300, 400 and 16. */
 #define ROOTS_LEAST_EPS 4.909093465297727e-91
@@ -62,8 +62,7 @@ enum roots_refusal {
 /* What stands where in tallies. Steps and evaluations are counted apart. */
 enum roots_tally {
     ROOTS_STEPS = 0,       /* completed steps */
-    ROOTS_VALUES = 1,      /* polynomial values as the rules count them: 802 at most; Brent's kept */
-                           /* end counts once more a step, though it is not worked out again */
+    ROOTS_VALUES = 1,      /* polynomial values worked out: 402 at most, 802 with ROOTS_POLYNOM */
     ROOTS_DERIVATIVES = 2, /* derivatives worked out: 400 at most */
     ROOTS_MARK = 3         /* 0, or the first rule by which the run left the Rust's way: 1 signs */
                            /* decided, and not a product; 2 a point was pulled to the nearer end */

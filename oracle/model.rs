@@ -214,13 +214,11 @@ fn brent(run: &mut Run, first: f64, second: f64, stop: &StopRule) -> Answer {
         let Some(t) = run.evaluate(s) else { return Refused(NOT_FINITE) };
         d = c.x;
         c = b;
-        // The kept end is evaluated again and counted.
+        // Both ends' values are kept with the points: only the new point is evaluated.
         if run.by_sign(opposite_sign(a.y, t.y), a.y * t.y < 0.0) {
-            let Some(kept) = run.evaluate(a.x) else { return Refused(NOT_FINITE) };
-            (a, b) = arrange(kept, t);
+            (a, b) = arrange(a, t);
         } else {
-            let Some(kept) = run.evaluate(b.x) else { return Refused(NOT_FINITE) };
-            (a, b) = arrange(t, kept);
+            (a, b) = arrange(t, b);
         }
         run.steps += 1;
         if stop.reached(run.steps) {

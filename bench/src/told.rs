@@ -78,9 +78,10 @@ fn told(result: Result<f64, SearchError>, telling: Telling, counts: [u64; 2], fi
     }
 }
 
-// One search by a method whose closure gives values only.
+// One search by a method whose closure gives values only. `again` values of each step are of a point evaluated before:
+// Brent's Rust works out the kept end's value again, which the proved side does not count.
 macro_rules! by_values {
-    ($name:ident, $search:ident) => {
+    ($name:ident, $search:ident, $again:literal) => {
         #[inline(never)]
         fn $name(call: &Call) -> Answer {
             let a = call.coefficients();
@@ -97,14 +98,15 @@ macro_rules! by_values {
             };
             let mut telling = Telling { eps: call.eps, limit: call.limit, steps: 0, last: Last::Value(0.0) };
             let result = $search(call.first, call.second, value, &mut telling);
-            told(result, telling, [values.get(), 0], finite.get())
+            let worked_out_again = $again * telling.steps;
+            told(result, telling, [values.get() - worked_out_again, 0], finite.get())
         }
     };
 }
 
-by_values!(brent, find_root_brent);
-by_values!(illinois, find_root_regula_falsi);
-by_values!(secant, find_root_secant);
+by_values!(brent, find_root_brent, 1);
+by_values!(illinois, find_root_regula_falsi, 0);
+by_values!(secant, find_root_secant, 0);
 
 #[inline(never)]
 fn newton(call: &Call) -> Answer {

@@ -33,14 +33,14 @@ static const double less2[] = {0, -2}, less1[] = {0, -1}, line[] = {-1}, wide[] 
 static const double plus1[] = {0, 1}, noughts[17] = {0};
 
 static const struct worked table[] = {
-    {"W1", less2, 2, ROOTS_BRENT, 0, 2, EPS, 1, REFUSED(NO_CONVERGENCY), {1, 4, 0, 0}},
+    {"W1", less2, 2, ROOTS_BRENT, 0, 2, EPS, 1, REFUSED(NO_CONVERGENCY), {1, 3, 0, 0}},
     {"W2", less2, 2, ROOTS_ILLINOIS, 0, 2, EPS, 1, REFUSED(NO_CONVERGENCY), {1, 3, 0, 0}},
     {"W3", less2, 2, ROOTS_SECANT, 0, 2, EPS, 1, REFUSED(NO_CONVERGENCY), {1, 3, 0, 0}},
     {"W4", less2, 2, ROOTS_NEWTON, 0, 0, EPS, 1, REFUSED(NO_CONVERGENCY), {2, 2, 2, 0}},
     {"W5", less2, 2, ROOTS_POLYNOM, 0, 2, EPS, 1, REFUSED(NO_CONVERGENCY), {1, 4, 1, 0}},
     {"W6", less1, 2, ROOTS_ILLINOIS, 0, 1, EPS, 1, BY_VALUE(1, 0), {0, 2, 0, 0}},
-    {"W7", line, 1, ROOTS_BRENT, 0, 2, EPS, 1, REFUSED(NO_CONVERGENCY), {1, 4, 0, 0}},
-    {"W8", line, 1, ROOTS_BRENT, 0, 2, EPS, 2, BY_VALUE(1, 0), {1, 4, 0, 0}},
+    {"W7", line, 1, ROOTS_BRENT, 0, 2, EPS, 1, REFUSED(NO_CONVERGENCY), {1, 3, 0, 0}},
+    {"W8", line, 1, ROOTS_BRENT, 0, 2, EPS, 2, BY_VALUE(1, 0), {1, 3, 0, 0}},
     {"W9", wide, 2, ROOTS_BRENT, 0, 2, 4, 10, BY_WIDTH(0, 0, 2), {0, 2, 0, 0}},
     {"W10", wide, 2, ROOTS_ILLINOIS, 0, 2, 4, 10, BY_WIDTH(300.0 / 204.0, 0, 2), {0, 2, 0, 0}},
     {"W11", plus1, 2, ROOTS_NEWTON, 0, 0, EPS, 5, REFUSED(ZERO_DERIVATIVE), {2, 3, 3, 0}},

@@ -14,13 +14,13 @@ mod store;
 #[allow(dead_code)]
 mod watch;
 
-use call::{Call, ILLINOIS, METHODS, NEWTON, POLYNOMIAL, SECANT};
+use call::{Call, BRENT, METHODS, NEWTON, POLYNOMIAL, SECANT};
 use std::io::{Read, Write};
 use std::process::{Command, Stdio};
 use std::time::Instant;
-use watch::Test;
+use watch::{Tallies, Test};
 
-// The lists of inputs/, with their names.
+// The lists of inputs/ from which calls are made and stored, with their names; bounds.txt is only compared.
 const KNOWN: [(&str, &str); 4] = [
     ("cases.txt", include_str!("../inputs/cases.txt")),
     ("readings.txt", include_str!("../inputs/readings.txt")),
@@ -106,6 +106,15 @@ fn refused_at_once(call: &Call) -> Option<u8> {
     }
 }
 
+// The values that the Rust's run asks for. In each completed step of Brent the Rust works out the
+// kept end's value again, and the port does not: v values in s steps ask for v - s.
+fn values_asked(call: &Call, tallies: &Tallies) -> u64 {
+    match call.method {
+        BRENT => tallies.values - tallies.steps,
+        _ => tallies.values,
+    }
+}
+
 // The answer line that the Rust's run asks for, without its mark: kind and numbers come from
 // the test that ended the run, refusal 9 from the first number that was not finite.
 fn asked_for(call: &Call) -> String {
@@ -114,7 +123,7 @@ fn asked_for(call: &Call) -> String {
     }
     let run = run::run(call, false);
     let t = run.not_finite.unwrap_or(run.tallies);
-    let tallies = format!("{} {} {}", t.steps, t.values, t.derivatives);
+    let tallies = format!("{} {} {}", t.steps, values_asked(call, &t), t.derivatives);
     if run.not_finite.is_some() {
         return format!("19 {tallies}");
     }
@@ -149,10 +158,9 @@ fn parts(answer: &str) -> Option<(u64, u64, u64, u64, u64)> {
 fn bounds(call: &Call) -> (u64, u64) {
     let m = call.limit.max(1);
     match call.method {
-        ILLINOIS | SECANT => (2 + m, 0),
         NEWTON => (call.limit.max(2), call.limit.max(2)),
         POLYNOMIAL => (2 + 2 * m, m),
-        _ => (2 + 2 * m, 0),
+        _ => (2 + m, 0),
     }
 }
 

@@ -318,8 +318,10 @@ pub fn store(count: usize, seed: u64, folder: &str) {
     let mut stdout = String::new();
     let mut sources = format!(
         "# Which route decided each line of stdout, by the number of the line. Written by oracle/stored {count} {seed}.\n\
-         # rust: kind, numbers, steps and counts are those of the watched run of crate roots 0.0.8; only that the\n\
-         # mark is 0 comes from document 01. document: refusals 1 to 5 and 9 and marked answers, which the Rust lacks.\n"
+         # rust: kind, numbers, steps and counts are those of the watched run of crate roots 0.0.8, but that of Brent's\n\
+         # values its steps are taken away: the Rust works out the kept end's value again in each step, so where it\n\
+         # evaluated v times in s completed steps, v - s is stored. Only that the mark is 0 comes from document 01.\n\
+         # document: refusals 1 to 5 and 9 and marked answers, which the Rust lacks.\n"
     );
     let mut endings: BTreeMap<(u64, u64, bool), [u64; 5]> = BTreeMap::new();
     let mut seen: BTreeMap<String, [u64; 5]> = BTreeMap::new();

@@ -1,8 +1,7 @@
--- Brent's method, step by step as brent.rs has it. Definitions only.
+-- Brent's method, step by step as brent.rs has it, but that a step evaluates the new point alone. Definitions only.
 use mathlib.Core.Bool.{Bool, true, false, cond}
 use lib.Ieee.{Float, binary64, ofBits, add, sub, mul, div, lt, le, ne}
 use mathlib.Core.List.{List}
-use mathlib.Core.Path.{_≡_}
 use Rattle.numerical.specs.declared.Answer.{Answer}
 use Rattle.numerical.specs.declared.Answer.the-variants.{ByWidth}
 use Rattle.numerical.specs.declared.Interval.{Interval}
@@ -14,9 +13,7 @@ use Rattle.simple_convergency.specs.declared.StopRule.{StopRule}
 use Rattle.doubles.specs.Doubles.{above, below, absolute, oppositeSign}
 use Rattle.numerical.specs.Middle.{two}
 use Rattle.numerical.specs.Tallies.{ruledOf}
-use Rattle.polynom.specs.Polynom.{evaluated}
-use Rattle.polynom.specs.declared.Evaluated.the-variants.{At}
-use Rattle.searching.specs.Programs.{found, converged, ruled, Prog, log, Turned, ended, next, test, stops, answers, byValue, valueAt, offered, pulledInto, differ, bracketed, narrowsTo, searches, answerOf}
+use Rattle.searching.specs.Programs.{found, converged, ruled, Prog, log, Turned, ended, next, stops, answers, byValue, valueAt, offered, pulledInto, differ, bracketed, narrowsTo, searches, answerOf}
 use Rattle.searching.specs.declared.Decided.{Decided}
 use Rattle.brent.specs.declared.Arranged.{Arranged}
 use Rattle.brent.specs.declared.Brent.{Brent}
@@ -114,12 +111,9 @@ usedOf bisecting s x = cond bisecting (div binary64 (add binary64 (s .a .x) (s .
 unfoldable pub nextOf : Brent → Bool → Arranged → Brent
 nextOf s flag r = record { a = r .a; b = r .b; c = s .b; d = s .c .x; flag = flag }
 
--- "The kept end is evaluated again each step and counted"
-unfoldable pub keptA : Brent → Bool → Sample → Sample → Prog (Turned Brent)
-keptA s flag p a = narrowsTo pairOf (nextOf s flag (arrange a p))
-
-unfoldable pub keptB : Brent → Bool → Sample → Sample → Prog (Turned Brent)
-keptB s flag p b = narrowsTo pairOf (nextOf s flag (arrange p b))
+-- the step is completed with this pair
+abbrev pub completes : Brent → Bool → Arranged → Prog (Turned Brent)
+completes s flag r = narrowsTo pairOf (nextOf s flag r)
 
 -- rule 1: whether the Rust's test, ya * ys < 0, says otherwise
 unfoldable pub stepDeparts : Sample → Sample → Bool
@@ -129,12 +123,19 @@ stepDeparts a p = differ (oppositeSign (a .y) (p .y)) (below (mul binary64 (a .y
 abbrev pub oppositeBy : Sample → Sample → Progress → Decided
 oppositeBy a p w = record { decision = oppositeSign (a .y) (p .y); progress = ruledOf 1 (stepDeparts a p) w }
 
+-- "Test whether ya and ys are of opposite signs": then a is kept, and otherwise b
+abbrev pub keepsA : Interval → Sample → Bool
+keepsA i p = oppositeSign (i .begin .y) (p .y)
+
+-- "If opposite, the next pair is arrange(a, s), otherwise arrange(s, b)"
+unfoldable pub pairAfter : Interval → Sample → Arranged
+pairAfter i p = cond (keepsA i p) (arrange (i .begin) p) (arrange p (i .end))
+
+-- "only the new point is evaluated": the kept end comes with its value
 unfoldable pub arrived : Brent → Bool → Sample → Prog (Turned Brent)
 arrived s flag p =
     log (ruled 1 (stepDeparts (s .a) p))
-    (test (oppositeSign (s .a .y) (p .y))
-    (valueAt (s .a .x) (keptA s flag p))
-    (valueAt (s .b .x) (keptB s flag p)))
+    (completes s flag (pairAfter (pairOf s) p))
 
 unfoldable pub landed : Brent → Bool → Float → Prog (Turned Brent)
 landed s flag x = valueAt x (arrived s flag)
@@ -149,7 +150,11 @@ stepWith s bisecting guess = offered (usedOf bisecting s guess) (pulledIn s bise
 unfoldable pub stepFrom : StopRule → Brent → Float → Prog (Turned Brent)
 stepFrom stop s guess = stepWith s (bisects stop s guess) guess
 
--- "Each round tests found at a, found at b, converged (a, b). The last gives c by width with pair (a, b)"
+-- "The last gives c by width with pair (a, b)"
+abbrev pub byWidth : Brent → Answer
+byWidth s = ByWidth (s .c .x) (s .a .x) (s .b .x)
+
+-- "Each round tests found at a, found at b, converged (a, b)"
 unfoldable pub turnFrom : StopRule → Brent → Prog (Turned Brent)
 turnFrom stop s =
     stops stop (found (s .a))
@@ -157,7 +162,7 @@ turnFrom stop s =
     (stops stop (found (s .b))
     (byValue (s .b))
     (stops stop (converged (s .a .x) (s .b .x))
-    (answers (ByWidth (s .c .x) (s .a .x) (s .b .x)))
+    (answers (byWidth s))
     (stepFrom stop s (guessOf s))))
 
 -- ---- the search
@@ -176,8 +181,3 @@ seen (Next s) = next s
 
 abbrev pub viewed : Turn → Turned Brent × Progress
 viewed t = (seen (t .to), t .progress)
-
--- the samples of the pair came from evaluations
-pub record Evaluations (cs : List Float) (s : Brent) : Type 0 where
-  pub of-a : evaluated cs (s .a .x) ≡ At (s .a)
-  pub of-b : evaluated cs (s .b .x) ≡ At (s .b)

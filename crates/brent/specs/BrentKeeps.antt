@@ -1,9 +1,9 @@
 -- Every answer of Brent's method has its reason, its pairs lie each within the one before with signs not the same, and its root lies between the starts.
 use Prim.Native.Nat.{ℕ, suc}
 use mathlib.Core.Bool.{Bool, true, false, cond, _||_}
-use mathlib.Core.List.{List, []}
+use mathlib.Core.List.{List, [], _∷_}
 use mathlib.Core.Logic.{inl, inr}
-use mathlib.Core.Path.{_≡_, refl, ap, sym, _∙_}
+use mathlib.Core.Path.{_≡_, refl, _∙_}
 use lib.Dec.{T}
 use lib.Ieee.{Float, binary64, fits, lt}
 use lib.Ieee.Fits.{cond-fits, add-fits, sub-fits, div-fits}
@@ -15,17 +15,16 @@ use Rattle.doubles.specs.Products.{product-below}
 use Rattle.doubles.specs.Signs.{same-symmetric, opposite-not-same, other-kept, not-found}
 use Rattle.numerical.specs.declared.Interval.{Interval}
 use Rattle.numerical.specs.declared.Sample.{Sample}
-use Rattle.polynom.specs.Polynom.{value}
 use Rattle.simple_convergency.specs.Stop.{foundAt, turnsOf}
 use Rattle.simple_convergency.specs.declared.StopRule.{StopRule}
-use Rattle.searching.specs.Programs.{oracle, Event, Prog, Turned, narrowsTo}
+use Rattle.searching.specs.Programs.{ruled, oracle, Event, noted, Prog, Turned}
 use Rattle.searching.specs.Histories.{stepsIn}
-use Rattle.searching.specs.Keeps.{Ends, After, ends-done, ends-log, ends-test, ends-stops, ends-pulled, ends-offered, ends-narrows, ends-searches}
+use Rattle.searching.specs.Keeps.{Ends, After, ends-done, ends-log, ends-stops, ends-pulled, ends-offered, ends-narrows, ends-searches}
 use Rattle.searching.specs.Reasons.{someEnds, True, by-width}
 use Rattle.searching.specs.ReasonLaws.{Answered}
 use Rattle.searching.specs.Brackets.{pairsIn, pointsOf, Fit, AtStarts, Bracket, Unpaired, Bracketing}
 use Rattle.searching.specs.BracketLaws.{double-finite, answered-fit, ends-fit, unpaired-none, unpaired-value, bracketed-ends, bracket-backed, bracket-in, bracket-narrows, bracket-on, bracket-pulled, bracket-going, bracket-next, bracket-found, bracket-value, bracket-no-candidate, bracket-limit}
-use Rattle.brent.specs.Brent.{arrange, pairOf, startOf, opened, secondAt, firstAt, opening, inverseQuadratic, chord, threeValues, guessOf, usedOf, nextOf, keptA, keptB, arrived, landed, pulledIn, stepWith, stepFrom, turnFrom, brentProgram}
+use Rattle.brent.specs.Brent.{arrange, pairOf, startOf, opened, secondAt, firstAt, opening, inverseQuadratic, chord, threeValues, guessOf, usedOf, nextOf, completes, keepsA, pairAfter, stepDeparts, arrived, landed, pulledIn, stepWith, stepFrom, turnFrom, brentProgram}
 use Rattle.brent.specs.declared.Arranged.{Arranged}
 use Rattle.brent.specs.declared.Brent.{Brent}
 
@@ -38,6 +37,19 @@ either-way P p q f g = go (lt (absolute (q .y)) (absolute (p .y)))
     go true = f
     go false = g
 
+-- what holds of the next pair whichever end is kept
+pub either-kept :
+    (P : Arranged → Type 0) (i : Interval) (p : Sample) →
+    (keepsA i p ≡ true → P (arrange (i .begin) p)) →
+    (keepsA i p ≡ false → P (arrange p (i .end))) →
+    P (pairAfter i p)
+unfolding pairAfter
+either-kept P i p f g = go (keepsA i p) refl
+  where
+    go : (t : Bool) → keepsA i p ≡ t → P (cond t (arrange (i .begin) p) (arrange p (i .end)))
+    go true e = f e
+    go false e = g e
+
 -- the point that is used fits its format
 used-held : (bisecting : Bool) (s : Brent) (x : Float) → T (fits binary64 x) → T (fits binary64 (usedOf bisecting s x))
 unfolding usedOf
@@ -46,13 +58,6 @@ used-held bisecting s x f = cond-fits binary64 bisecting _ _ (div-fits binary64 
 guess-held : (s : Brent) → T (fits binary64 (guessOf s))
 unfolding guessOf inverseQuadratic chord
 guess-held s = cond-fits binary64 (threeValues s) _ _ (add-fits binary64 _ _) (sub-fits binary64 _ _)
-
--- the kept end, evaluated again: a sample answered at the point of a true one is that one
-answered-again : {a : List Float} (p q : Sample) → True a p → Answered a (p .x) q → q ≡ p
-answered-again {a} p q t u = λ i. record { x = u .at-point i; y = same i }
-  where
-    same : q .y ≡ p .y
-    same = u .is-true .computed ∙ ap (value a) (u .at-point) ∙ sym (t .computed)
 
 -- values of opposite signs, told by the signs or by the product, are not alike: for `search`
 ruleset apart = (opposite-not-same, product-below)
@@ -100,31 +105,26 @@ module _ (a : List Float) (stop : StopRule) (good : above (stop .eps) ≡ true) 
   module _ (n : ℕ) (s : Brent) where
     module _ (flag : Bool) where
       -- two fit samples arranged, whichever comes first, and the earlier b becomes c
-      keeps-arranged : (p q : Sample) (h : List Event) → Stands (suc n) s h → Fit a (pairOf s) p → Fit a (pairOf s) q → sameSign (p .y) (q .y) ≡ false → Reaches n (narrowsTo pairOf (nextOf s flag (arrange p q))) h
+      keeps-arranged : (p q : Sample) (h : List Event) → Stands (suc n) s h → Fit a (pairOf s) p → Fit a (pairOf s) q → sameSign (p .y) (q .y) ≡ false → Reaches n (completes s flag (arrange p q)) h
       unfolding nextOf
-      keeps-arranged p q h b t u e = either-way (λ r. Reaches n (narrowsTo pairOf (nextOf s flag r)) h) p q (to-next _ t u e) (to-next _ u t (same-symmetric _ _ ∙ e))
+      keeps-arranged p q h b t u e = either-way (λ r. Reaches n (completes s flag r) h) p q (to-next _ t u e) (to-next _ u t (same-symmetric _ _ ∙ e))
         where
-          to-next : (r : Arranged) → Fit a (pairOf s) (r .a) → Fit a (pairOf s) (r .b) → sameSign (r .a .y) (r .b .y) ≡ false → Reaches n (narrowsTo pairOf (nextOf s flag r)) h
-          to-next r t u e = ends-narrows _ pairOf (record { bracket = bracket-next b _ t u e; c-between = fit-between b (ends-fit (bracket-backed b) .1) })
-
-      keeps-a : (p q : Sample) (h : List Event) → Stands (suc n) s h → Fit a (pairOf s) p → Answered a (s .a .x) q → sameSign (s .a .y) (p .y) ≡ false → Reaches n (keptA s flag p q) h
-      unfolding keptA
-      keeps-a p q h b t u e = rw (answered-again (s .a) q (bracket-backed b .begin-true) u) (keeps-arranged (s .a) p h b (ends-fit (bracket-backed b) .0) t e)
-
-      keeps-b : (p q : Sample) (h : List Event) → Stands (suc n) s h → Fit a (pairOf s) p → Answered a (s .b .x) q → sameSign (p .y) (s .b .y) ≡ false → Reaches n (keptB s flag p q) h
-      unfolding keptB
-      keeps-b p q h b t u e = rw (answered-again (s .b) q (bracket-backed b .end-true) u) (keeps-arranged p (s .b) h b t (ends-fit (bracket-backed b) .1) e)
+          to-next : (r : Arranged) → Fit a (pairOf s) (r .a) → Fit a (pairOf s) (r .b) → sameSign (r .a .y) (r .b .y) ≡ false → Reaches n (completes s flag r) h
+          to-next r t u e = ends-narrows _ _ (record { bracket = bracket-next b _ t u e; c-between = fit-between b (ends-fit (bracket-backed b) .1) })
 
     -- the test found(a) of this round missed, so a's value is above zero or below
     module _ (away : (above (s .a .y) || below (s .a .y)) ≡ true) where
-      -- the value at the kept end has not the sign of the new sample's
+      -- the value at the kept end is the state's, and has not the sign of the new sample's
       keeps-arrived : (flag : Bool) (p : Sample) (h : List Event) → Stands (suc n) s h → Fit a (pairOf s) p → Reaches n (arrived s flag p) h
       unfolding arrived pairsIn stepsIn someEnds
       keeps-arrived flag p h b t =
+          let k = ends-fit (bracket-backed b) in
+          let i = noted (ruled 1 (stepDeparts (s .a) p)) ∷ h in
+          let c : Stands (suc n) s i = bracket-on b refl refl refl in
           ends-log _
-          (ends-test _
-          (λ e. bracket-value (bracket-on b refl refl refl) (s .a .x) (bracket-backed b .begin-double) (λ q u c. keeps-a flag p q _ c t u (search apart)))
-          (λ e. bracket-value (bracket-on b refl refl refl) (s .b .x) (bracket-backed b .end-double) (λ q u c. keeps-b flag p q _ c t u (search (other-kept, bracket-backed b .not-alike)))))
+          (either-kept (λ r. Reaches n (completes s flag r) i) (pairOf s) p
+          (λ e. keeps-arranged flag (s .a) p i c (k .0) t (search apart))
+          (λ e. keeps-arranged flag p (s .b) i c t (k .1) (search (other-kept, bracket-backed b .not-alike))))
 
       keeps-landed : (flag : Bool) (x : Float) (h : List Event) → Stands (suc n) s h → In (pointsOf (pairOf s)) x → Double x → Reaches n (landed s flag x) h
       unfolding landed

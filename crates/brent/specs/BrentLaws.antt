@@ -15,10 +15,10 @@ use Rattle.numerical.specs.declared.Progress.{Progress}
 use Rattle.numerical.specs.declared.Sample.{Sample}
 use Rattle.simple_convergency.specs.Stop.{turnsOf}
 use Rattle.simple_convergency.specs.declared.StopRule.{StopRule}
-use Rattle.searching.specs.Programs.{oracle, play, tallied}
-use Rattle.searching.specs.Bounds.{More, Within, within-done, within-test, within-stops, within-ruled, within-pulled, within-value, within-offered, within-bracketed, within-narrows, within-less, within-searches, answer-within}
+use Rattle.searching.specs.Programs.{Turned, oracle, play, tallied}
+use Rattle.searching.specs.Bounds.{More, Within, within-done, within-stops, within-ruled, within-pulled, within-value, within-offered, within-bracketed, within-narrows, within-less, within-searches, answer-within}
 use Rattle.searching.specs.LoopLaws.{Turns, runOf, opened-ended, opened-next, Shown, shown-end, shown-go, seen-once}
-use Rattle.brent.specs.Brent.{arrange, opened, secondAt, firstAt, opening, nextOf, keptA, keptB, arrived, landed, pulledIn, stepWith, stepFrom, turnFrom, brentProgram, brent, seen}
+use Rattle.brent.specs.Brent.{arrange, pairOf, opened, secondAt, firstAt, opening, nextOf, completes, keepsA, pairAfter, arrived, landed, pulledIn, stepWith, stepFrom, turnFrom, brentProgram, brent, seen}
 use Rattle.brent.specs.declared.Arranged.{Arranged}
 use Rattle.brent.specs.declared.Brent.{Brent}
 use Rattle.brent.specs.declared.To.{To}
@@ -41,22 +41,33 @@ module _ {u v : Float} (p q : Sample) (e : u ≡ absolute (p .y)) (f : v ≡ abs
   pub moved-not-larger : {i : Brent} (s : Brent) (flag : Bool) → i ≡ nextOf s flag (record { a = q; b = p }) → lt v u ≡ false → i ≡ nextOf s flag (arrange p q)
   moved-not-larger s flag m h = m ∙ ap (nextOf s flag) (first-not-larger h)
 
+-- the code has decided by the signs which end is kept, and made the step to it and the new sample
+module _ (cs : List Float) (progress : Progress) {d : Bool} {r : Turned Brent × Progress} (s : Brent) (flag : Bool) (p : Sample) (e : d ≡ keepsA (pairOf s) p) where
+  pub by-kept-a :
+      d ≡ true → r ≡ play tallied (oracle cs) (completes s flag (arrange (s .a) p)) progress →
+      r ≡ play tallied (oracle cs) (completes s flag (pairAfter (pairOf s) p)) progress
+  unfolding pairAfter
+  by-kept-a h k = rw (← e, h) k
+
+  pub by-kept-b :
+      d ≡ false → r ≡ play tallied (oracle cs) (completes s flag (arrange p (s .b))) progress →
+      r ≡ play tallied (oracle cs) (completes s flag (pairAfter (pairOf s) p)) progress
+  unfolding pairAfter
+  by-kept-b h k = rw (← e, h) k
+
 -- the two ends
 pub within-opening : (stop : StopRule) (from to : Float) → Within 2 0 0 (opening stop from to)
 unfolding opening firstAt secondAt opened
 within-opening stop from to = within-value from (λ p. within-value to (λ q. within-bracketed stop _ _ _))
 
--- the new sample and the kept end
-pub within-turn : (stop : StopRule) (s : Brent) → Within 2 0 1 (turnFrom stop s)
-unfolding turnFrom stepFrom stepWith pulledIn landed arrived keptA keptB
+-- the new sample
+pub within-turn : (stop : StopRule) (s : Brent) → Within 1 0 1 (turnFrom stop s)
+unfolding turnFrom stepFrom stepWith pulledIn landed arrived
 within-turn stop s =
     within-stops stop _ within-done
     (within-stops stop _ within-done
     (within-stops stop _ within-done
-    (within-offered _ (λ x. within-pulled _ _ x (λ y. within-value y (λ p. within-ruled 1 _
-    (within-test _
-    (within-value _ (λ a. within-narrows _ _))
-    (within-value _ (λ b. within-narrows _ _)))))))))
+    (within-offered _ (λ x. within-pulled _ _ x (λ y. within-value y (λ p. within-ruled 1 _ (within-narrows _ _)))))))
 
 -- the turns, for the laws of loops
 abbrev pub turns : StopRule → Turns Brent To
@@ -85,12 +96,12 @@ module _ (cs : List Float) (stop : StopRule) (from to : Float) {t : To} {p q : P
   from-state = opened-next (turns stop) _ _ cs f e
 
 module _ (a : List Float) (stop : StopRule) (from to : Float) where
-  most : More (2 + turnsOf stop * 2) (0 + turnsOf stop * 0) (0 + turnsOf stop * 1) fresh (brent a stop from to .progress)
+  most : More (2 + turnsOf stop * 1) (0 + turnsOf stop * 0) (0 + turnsOf stop * 1) fresh (brent a stop from to .progress)
   unfolding brent brentProgram
-  most = answer-within a (within-searches 2 0 0 2 0 1 (turnsOf stop) (within-opening stop from to) (λ r. le-refl (turnsOf stop)) (within-turn stop))
+  most = answer-within a (within-searches 2 0 0 1 0 1 (turnsOf stop) (within-opening stop from to) (λ r. le-refl (turnsOf stop)) (within-turn stop))
 
-  -- "Values at most 2 + 2m"
-  pub brent-values : brent a stop from to .progress .tally .values .0 ≤ 2 + 2 * turnsOf stop
+  -- "Values at most 2 + m"
+  pub brent-values : brent a stop from to .progress .tally .values .0 ≤ 2 + turnsOf stop
   brent-values = let h = most .values in omega arith
 
   -- "Illinois, secant and Brent take no derivatives"

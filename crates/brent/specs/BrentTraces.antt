@@ -1,23 +1,21 @@
 -- Every Brent history has its events in order, a pair for the opening and one for each step, and c is the earlier b.
 use mathlib.Core.Bool.{Bool}
 use mathlib.Core.List.{List, [], _∷_}
-use mathlib.Core.Logic.{_⊎_, inl, inr}
+use mathlib.Core.Logic.{inl, inr}
 use mathlib.Core.Path.{_≡_, refl, _∙_}
 use lib.Ieee.{Float}
-use Rattle.doubles.specs.Doubles.{oppositeSign}
-use Rattle.numerical.specs.declared.Interval.{Interval}
 use Rattle.numerical.specs.declared.Sample.{Sample}
 use Rattle.polynom.specs.declared.Evaluated.the-variants.{At}
 use Rattle.simple_convergency.specs.Stop.{turnsOf}
 use Rattle.simple_convergency.specs.declared.StopRule.{StopRule}
-use Rattle.searching.specs.Programs.{found, converged, oracle, Event, asked, Prog, Turned, narrowsTo}
+use Rattle.searching.specs.Programs.{found, converged, ruled, oracle, Event, asked, noted, Prog, Turned}
 use Rattle.searching.specs.Brackets.{pairsIn}
 use Rattle.searching.specs.Events.{evaluationsIn, candidatesIn, evaluatedSince, Tried, Answered, OfStarts, PointsOf, PulledNow, Traced, Opening, Tracing}
 use Rattle.searching.specs.EventLaws.{opening-none, opening-value, tracing-newest, tracing-value, tracing-stops, tracing-candidate, tracing-ruled, tracing-narrows, traced-end, traced-bracketed}
-use Rattle.searching.specs.Keeps.{Ends, After, ends-done, ends-test, ends-searches}
-use Rattle.brent.specs.Brent.{arrange, pairOf, startOf, opened, secondAt, firstAt, opening, nextOf, keptA, keptB, arrived, landed, pulledIn, stepWith, stepFrom, turnFrom, brentProgram}
-use Rattle.brent.specs.BrentEvents.{Arrangement, Follows, IsC, Gives}
-use Rattle.brent.specs.BrentKeeps.{either-way}
+use Rattle.searching.specs.Keeps.{Ends, After, ends-done, ends-searches}
+use Rattle.brent.specs.Brent.{arrange, pairOf, startOf, opened, secondAt, firstAt, opening, nextOf, completes, stepDeparts, arrived, landed, pulledIn, stepWith, stepFrom, turnFrom, brentProgram}
+use Rattle.brent.specs.BrentEvents.{Stepped, Follows, IsC, Gives}
+use Rattle.brent.specs.BrentKeeps.{either-way, either-kept}
 use Rattle.brent.specs.declared.Arranged.{Arranged}
 use Rattle.brent.specs.declared.Brent.{Brent}
 
@@ -55,28 +53,27 @@ module _ (a : List Float) (stop : StopRule) (from to : Float) where
   module _ (s : Brent) where
     -- to the next pair, whichever of the two samples comes first, and the earlier b becomes c
     traces-next :
-        (flag : Bool) (p q : Sample) (h : List Event) →
-        ((i : Interval) → (i ≡ record { begin = p; end = q }) ⊎ (i ≡ record { begin = q; end = p }) → Arrangement i h) → Tried h → Stands s h →
-        Reaches (narrowsTo pairOf (nextOf s flag (arrange p q))) h
+        (flag : Bool) (p q : Sample) (h : List Event) → Stepped (record { begin = p; end = q }) h → Stepped (record { begin = q; end = p }) h → Tried h → Stands s h →
+        Reaches (completes s flag (arrange p q)) h
     unfolding nextOf pairsIn evaluatedSince
-    traces-next flag p q h f z t =
-        either-way (λ r. Reaches (narrowsTo pairOf (nextOf s flag r)) h) p q
-        (tracing-narrows pairOf _ (inr (f _ (inl refl))) (_, _, refl) t (λ u. (u, rw (t .newest) refl, z)))
-        (tracing-narrows pairOf _ (inr (f _ (inr refl))) (_, _, refl) t (λ u. (u, rw (t .newest) refl, z)))
+    traces-next flag p q h f g z t =
+        either-way (λ r. Reaches (completes s flag r) h) p q
+        (tracing-narrows pairOf _ (inr f) (_, _, refl) t (λ u. (u, rw (t .newest) refl, z)))
+        (tracing-narrows pairOf _ (inr g) (_, _, refl) t (λ u. (u, rw (t .newest) refl, z)))
 
     traces-arrived : (flag : Bool) (p : Sample) (h : List Event) → Answered p h → Stands s h → Reaches (arrived s flag p) h
-    unfolding arrived keptA keptB evaluatedSince pairsIn
+    unfolding arrived pairsIn evaluatedSince
     traces-arrived flag p h (x, l) t =
+        let i = noted (ruled 1 (stepDeparts (s .a) p)) ∷ h in
+        let n = tracing-newest t in
         tracing-ruled _ (inl refl) t
-        (λ u. ends-test (oppositeSign (s .a .y) (p .y))
-        (λ e. tracing-value (s .a .x) (λ v. inr (inr (inr (pairOf s, p, tracing-newest t, (x, l), rw e refl)))) u
-        (λ q w. traces-next flag q p _ (λ i k. (p, q, (x, s .a .x, rw l refl), elim k [ inl e ↦ inr e | inr e ↦ inl e ])) (_, _, refl) w))
-        (λ e. tracing-value (s .b .x) (λ v. inr (inr (inr (pairOf s, p, tracing-newest t, (x, l), rw e refl)))) u
-        (λ q w. traces-next flag p q _ (λ i k. (p, q, (x, s .b .x, rw l refl), k)) (_, _, refl) w)))
+        (λ u. either-kept (λ r. Reaches (completes s flag r) i) (pairOf s) p
+        (λ e. traces-next flag (s .a) p i (pairOf s, p, n, (x, l), inr (rw e refl)) (pairOf s, p, n, (x, l), inl (rw e refl)) (_, _, l) u)
+        (λ e. traces-next flag p (s .b) i (pairOf s, p, n, (x, l), inl (rw e refl)) (pairOf s, p, n, (x, l), inr (rw e refl)) (_, _, l) u))
 
     traces-landed : (flag : Bool) (x : Float) (h : List Event) → PulledNow x h → Stands s h → Reaches (landed s flag x) h
     unfolding landed evaluatedSince
-    traces-landed flag x h k t = tracing-value x (λ e. inr (inr (inl k))) t (λ p u. traces-arrived flag p _ (x, rw (k .3 .1) refl) u)
+    traces-landed flag x h k t = tracing-value x (λ e. inr (inr k)) t (λ p u. traces-arrived flag p _ (x, rw (k .3 .1) refl) u)
 
     traces-with : (bisecting : Bool) (guess : Float) (h : List Event) → Tried h → Stands s h → Reaches (stepWith s bisecting guess) h
     unfolding stepWith pulledIn pairsIn candidatesIn evaluatedSince

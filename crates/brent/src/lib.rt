@@ -13,9 +13,9 @@ ghost use lib.Ieee.{Float};
 ghost use Rattle.numerical.specs.Tallies.{Room};
 ghost use Rattle.simple_convergency.specs.Stop.{greatestLimit};
 ghost use Rattle.simple_convergency.specs.declared.StopRule.{StopRule};
-ghost use Rattle.searching.specs.Programs.{ended, next, valueAt, oracle, play, tallied};
+ghost use Rattle.searching.specs.Programs.{ended, next, oracle, play, tallied};
 ghost use Rattle.searching.specs.LoopLaws.{Ample, runOf};
-ghost use Rattle.brent.specs.Brent.{Evaluations, arrange, opened, secondAt, firstAt, opening, inverseQuadratic, chord, threeValues, guessOf, beyondQuarter, tooSlow, stalls, bisects, usedOf, nextOf, keptA, keptB, oppositeBy, arrived, landed, pulledIn, stepWith, stepFrom, turnFrom, brent, viewed};
+ghost use Rattle.brent.specs.Brent.{arrange, opened, secondAt, firstAt, opening, inverseQuadratic, chord, threeValues, guessOf, beyondQuarter, tooSlow, stalls, bisects, usedOf, nextOf, completes, oppositeBy, arrived, landed, pulledIn, stepWith, stepFrom, turnFrom, brent, viewed};
 
 // Two samples, the larger in size first.
 pub struct Arranged {
@@ -237,30 +237,15 @@ fn moved(s: Brent, flag: bool, a: Sample, b: Sample) -> Brent
     }
 }
 
-// The sample p replaces b. The kept a is counted as evaluated again: its value is known. The larger comes first, and each case goes on by itself, which is faster than to choose both ends.
-fn keep_a(s: Brent, flag: bool, p: Sample, progress: Progress) -> Turn
-    requires { ⌜ Room 2 progress ⌝ }
-    ensures { λ r. ⌜ ((cs : List Float) → Evaluations cs s → viewed r ≡ play tallied (oracle cs) (valueAt (s .a .x) (keptA s flag p)) progress) ⌝ }
+// A step to the two samples, arranged. Each case goes on by itself, which is faster than to choose both ends.
+fn step_to(s: Brent, flag: bool, one: Sample, other: Sample, progress: Progress) -> Turn
+    requires { ⌜ Room 1 progress ⌝ }
+    ensures { λ r. ⌜ ((cs : List Float) → viewed r ≡ play tallied (oracle cs) (completes s flag (arrange one other)) progress) ⌝ }
 {
-    let kept = s.a;
-    let counted = progress.valued();
-    if doubles::abs(kept.y) > doubles::abs(p.y) {
-        return goes_on(moved(s, flag, kept, p), counted.stepped());
+    if doubles::abs(one.y) > doubles::abs(other.y) {
+        return goes_on(moved(s, flag, one, other), progress.stepped());
     }
-    goes_on(moved(s, flag, p, kept), counted.stepped())
-}
-
-// The sample p replaces a, and b is kept, likewise.
-fn keep_b(s: Brent, flag: bool, p: Sample, progress: Progress) -> Turn
-    requires { ⌜ Room 2 progress ⌝ }
-    ensures { λ r. ⌜ ((cs : List Float) → Evaluations cs s → viewed r ≡ play tallied (oracle cs) (valueAt (s .b .x) (keptB s flag p)) progress) ⌝ }
-{
-    let kept = s.b;
-    let counted = progress.valued();
-    if doubles::abs(p.y) > doubles::abs(kept.y) {
-        return goes_on(moved(s, flag, p, kept), counted.stepped());
-    }
-    goes_on(moved(s, flag, kept, p), counted.stepped())
+    goes_on(moved(s, flag, other, one), progress.stepped())
 }
 
 // Rule 1: whether the values have opposite signs. The signs decide, and the product the mark alone: it is set where the product says otherwise.
@@ -275,24 +260,25 @@ fn opposite(p: Sample, q: Sample, progress: Progress) -> Decided
     }
 }
 
-// Where a has the sign opposite to that of the sample p, a is kept, otherwise b.
+// Where a has the sign opposite to that of the sample p, a is kept, otherwise b; the kept end has its value.
 fn arrived(s: Brent, flag: bool, p: Sample, progress: Progress) -> Turn
-    requires { ⌜ Room 2 progress ⌝ }
-    ensures { λ r. ⌜ ((cs : List Float) → Evaluations cs s → viewed r ≡ play tallied (oracle cs) (arrived s flag p) progress) ⌝ }
+    requires { ⌜ Room 1 progress ⌝ }
+    ensures { λ r. ⌜ ((cs : List Float) → viewed r ≡ play tallied (oracle cs) (arrived s flag p) progress) ⌝ }
 {
-    let end = s.a;
-    let apart = opposite(end, p, progress);
+    let a = s.a;
+    let b = s.b;
+    let apart = opposite(a, p, progress);
     let marked = apart.progress;
     if apart.decision {
-        keep_a(s, flag, p, marked)
+        step_to(s, flag, a, p, marked)
     } else {
-        keep_b(s, flag, p, marked)
+        step_to(s, flag, p, b, marked)
     }
 }
 
 // The point x is evaluated.
 fn landed(a: &[f64], s: Brent, flag: bool, x: f64, progress: Progress) -> Turn
-    requires { ⌜ Room 3 progress × Evaluations (now a) s ⌝ }
+    requires { ⌜ Room 2 progress ⌝ }
     ensures { λ r. ⌜ viewed r ≡ play tallied (oracle (now (a .entry))) (landed s flag x) progress ⌝ }
 {
     let counted = progress.valued();
@@ -305,7 +291,7 @@ fn landed(a: &[f64], s: Brent, flag: bool, x: f64, progress: Progress) -> Turn
 
 // A point outside the pair becomes the nearer end.
 fn pulled_in(a: &[f64], s: Brent, flag: bool, x: f64, progress: Progress) -> Turn
-    requires { ⌜ Room 3 progress × Evaluations (now a) s ⌝ }
+    requires { ⌜ Room 2 progress ⌝ }
     ensures { λ r. ⌜ viewed r ≡ play tallied (oracle (now (a .entry))) (pulledIn s flag x) progress ⌝ }
 {
     let u = s.a.x;
@@ -317,7 +303,7 @@ fn pulled_in(a: &[f64], s: Brent, flag: bool, x: f64, progress: Progress) -> Tur
 
 // Only the point that is used is refused or pulled; the flag is set before.
 fn step_with(a: &[f64], s: Brent, bisecting: bool, guess: f64, progress: Progress) -> Turn
-    requires { ⌜ Room 3 progress × Evaluations (now a) s ⌝ }
+    requires { ⌜ Room 2 progress ⌝ }
     ensures { λ r. ⌜ viewed r ≡ play tallied (oracle (now (a .entry))) (stepWith s bisecting guess) progress ⌝ }
 {
     let x = used_of(bisecting, s, guess);
@@ -330,7 +316,7 @@ fn step_with(a: &[f64], s: Brent, bisecting: bool, guess: f64, progress: Progres
 
 // A step from the guess.
 fn step_from(a: &[f64], stop: StopRule, s: Brent, progress: Progress) -> Turn
-    requires { ⌜ Room 3 progress × Evaluations (now a) s ⌝ }
+    requires { ⌜ Room 2 progress ⌝ }
     ensures { λ r. ⌜ viewed r ≡ play tallied (oracle (now (a .entry))) (stepFrom stop s (guessOf s)) progress ⌝ }
 {
     let guess = guess_of(s);
@@ -339,7 +325,7 @@ fn step_from(a: &[f64], stop: StopRule, s: Brent, progress: Progress) -> Turn
 
 // A round: found at a, found at b, converged, and a step.
 fn take_turn(a: &[f64], stop: StopRule, s: Brent, p: Progress) -> Turn
-    requires { ⌜ Room 3 p × Evaluations (now a) s ⌝ }
+    requires { ⌜ Room 3 p ⌝ }
     ensures { λ r. ⌜ viewed r ≡ play tallied (oracle (now (a .entry))) (turnFrom stop s) p ⌝ }
 {
     let first = s.a;
@@ -379,7 +365,7 @@ fn take_turn(a: &[f64], stop: StopRule, s: Brent, p: Progress) -> Turn
 
 // From a state on: at most so many rounds; the last step's sample is not tested.
 fn searched(a: &[f64], stop: StopRule, begun: Brent, progress: Progress, most: u64) -> Outcome
-    requires { ⌜ (most ≤ greatestLimit) × Ample progress × Evaluations (now a) begun ⌝ }
+    requires { ⌜ (most ≤ greatestLimit) × Ample progress ⌝ }
     ensures { λ r. ⌜ r ≡ runOf (now (a .entry)) (turnFrom stop) most begun progress ⌝ }
 {
     let mut s = begun;

@@ -31,7 +31,8 @@ use Rattle.roots.specs.Calls.{badCount, allFinite, startsOf, foundBy, foundUnde
 use Rattle.roots.specs.declared.Method.{Method}
 use Rattle.roots.specs.declared.Method.the-variants.{Brent, RegulaFalsi, Secant, NewtonRaphson, Polynom}
 use Rattle.promises.specs.EarlyLaws.{atOnce}
-use Rattle.promises.specs.Searches.{ruleOf, programOf, historyOf, Truthful}
+use Rattle.promises.specs.Counts.{ruleOf}
+use Rattle.promises.specs.Searches.{programOf, historyOf, Truthful}
 
 -- each method's definition is its program's answer
 pub found-by-program : (a : List Float) (stop : StopRule) (m : Method) → foundBy a stop m ≡ answerOf a (programOf stop m)
@@ -103,6 +104,9 @@ at-answer a {Q} g e = subst (λ (x : Answer). Q x (play listed (oracle a) g [] .
 module _ (a : List Float) (m : Method) (eps : Float) (limit : ℕ) (z : atOnce a m eps limit ≡ 0) where
   told-answer : answer a m eps limit ≡ answerOf a (programOf (ruleOf eps limit) m)
   told-answer = passed a m eps limit z .is-answer
+
+  pub answer-found : answer a m eps limit ≡ foundBy a (ruleOf eps limit) m
+  answer-found = told-answer ∙ sym (found-by-program a (ruleOf eps limit) m)
 
   pub counts-of : answer a m eps limit .progress ≡ counted (historyOf a m eps limit)
   counts-of = rw told-answer (tallies-are-counts a (programOf (ruleOf eps limit) m))

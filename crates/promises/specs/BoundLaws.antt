@@ -2,7 +2,7 @@
 use Prim.Native.Nat.{ℕ, _≤_}
 use native.Mathlib.Omega.{arith}
 use mathlib.Core.List.{List}
-use mathlib.Core.Path.{_≡_, sym, _∙_}
+use mathlib.Core.Path.{_≡_}
 use lib.Ieee.{Float}
 use Rattle.simple_convergency.specs.declared.StopRule.{StopRule}
 use Rattle.brent.specs.BrentLaws.{brent-values, brent-derivatives}
@@ -14,11 +14,11 @@ use Rattle.roots.specs.Calls.{foundBy, answer}
 use Rattle.roots.specs.declared.Method.{Method}
 use Rattle.roots.specs.declared.Method.the-variants.{Brent, RegulaFalsi, Secant, NewtonRaphson, Polynom}
 use Rattle.promises.specs.EarlyLaws.{atOnce}
-use Rattle.promises.specs.AnswerLaws.{found-by-program, passed}
-use Rattle.promises.specs.Searches.{ruleOf, mostValues, mostDerivatives}
+use Rattle.promises.specs.AnswerLaws.{answer-found}
+use Rattle.promises.specs.Counts.{ruleOf, mostValues, mostDerivatives}
 
 values-most : (a : List Float) (stop : StopRule) (m : Method) → foundBy a stop m .progress .tally .values .0 ≤ mostValues m stop
-values-most a stop (Brent from to) = brent-values a stop from to
+values-most a stop (Brent from to) = omega (arith, brent-values a stop from to)
 values-most a stop (RegulaFalsi from to) = regula-falsi-values a stop from to
 values-most a stop (Secant first second) = secant-values a stop first second
 values-most a stop (NewtonRaphson start) = newton-raphson-values a stop start
@@ -32,11 +32,8 @@ derivatives-most a stop (NewtonRaphson start) = newton-raphson-derivatives a sto
 derivatives-most a stop (Polynom from to) = polynom-search-derivatives a stop from to
 
 module _ (a : List Float) (m : Method) (eps : Float) (limit : ℕ) (z : atOnce a m eps limit ≡ 0) where
-  told-found : answer a m eps limit ≡ foundBy a (ruleOf eps limit) m
-  told-found = passed a m eps limit z .is-answer ∙ sym (found-by-program a (ruleOf eps limit) m)
-
   pub values-within : answer a m eps limit .progress .tally .values .0 ≤ mostValues m (ruleOf eps limit)
-  values-within = rw told-found (values-most a (ruleOf eps limit) m)
+  values-within = rw (answer-found a m eps limit z) (values-most a (ruleOf eps limit) m)
 
   pub derivatives-within : answer a m eps limit .progress .tally .derivatives .0 ≤ mostDerivatives m (ruleOf eps limit)
-  derivatives-within = rw told-found (derivatives-most a (ruleOf eps limit) m)
+  derivatives-within = rw (answer-found a m eps limit z) (derivatives-most a (ruleOf eps limit) m)

@@ -1,9 +1,10 @@
--- W1 to W13 of document 01, and its limits with the Rust's for a plain eps, as one statement each over a list of calls with their answers.
+-- W1 to W13 of document 01, its limits with the Rust's for a plain eps, calls that reach its bounds, and W1, W7 and W8 with the Rust's evaluations, as one statement each over a list of calls with their answers.
 use Prim.Native.Nat.{ℕ, zero, suc, _+_}
 use mathlib.Core.Bool.{Bool, true, false, cond, _&&_}
 use mathlib.Core.List.{List, [], _∷_}
 use mathlib.Core.Path.{_≡_, refl}
 use lib.Dec.{eqb}
+use lib.ListN.{take}
 use lib.Ieee.{Float, binary64, ofBits, toBits, lt, le, eq, ne, neg, sub, add, mul, div}
 use Rattle.doubles.specs.Doubles.{absolute, sameSign, oppositeSign, outside, pulled}
 use Rattle.numerical.specs.Answers.{kindOf, numbersOf}
@@ -14,6 +15,7 @@ use Rattle.simple_convergency.specs.Stop.{plainLimit, badEps, checkedOf, foundA
 use Rattle.polynom.specs.Polynom.{sums, value, sumsBoth, valueAndDerivative, evaluated, evaluatedBoth}
 use Rattle.searching.specs.Programs.{rising, bind, test, stops, sampled, sampledBoth, valueAt, bothAt, offered, pulledInto, productDeparts, bracketed, stepsTo, narrowsTo, run, searches, play, answerOf}
 use Rattle.brent.specs.Brent as br
+use Rattle.brent.specs.BrentRust as rb
 use Rattle.regula_falsi.specs.RegulaFalsi as rf
 use Rattle.secant.specs.Secant as sec
 use Rattle.newton_raphson.specs.NewtonRaphson as nr
@@ -21,6 +23,7 @@ use Rattle.polynom_search.specs.PolynomSearch as ps
 use Rattle.roots.specs.Calls.{badCount, allFinite, answer}
 use Rattle.roots.specs.declared.Method.{Method}
 use Rattle.roots.specs.declared.Method.the-variants.{Brent, RegulaFalsi, Secant, NewtonRaphson, Polynom}
+use Rattle.promises.specs.Counts.{ruleOf, mostValues, mostDerivatives, rustFoundBy}
 
 -- a call, its doubles given by their bits, and everything that its answer carries
 pub record Case : Type 0 where
@@ -118,7 +121,7 @@ accepted a m eps limit kind numbers steps values derivatives =
 unfoldable pub cases : List Case
 cases =
     -- W1 to W5: 8
-    refused (d0 ∷ minus2 ∷ []) (Brent (double d0) (double d2)) part1024 1 8 1 4 0
+    refused (d0 ∷ minus2 ∷ []) (Brent (double d0) (double d2)) part1024 1 8 1 3 0
     ∷ refused (d0 ∷ minus2 ∷ []) (RegulaFalsi (double d0) (double d2)) part1024 1 8 1 3 0
     ∷ refused (d0 ∷ minus2 ∷ []) (Secant (double d0) (double d2)) part1024 1 8 1 3 0
     ∷ refused (d0 ∷ minus2 ∷ []) (NewtonRaphson (double d0)) part1024 1 8 2 2 2
@@ -126,8 +129,8 @@ cases =
     -- W6: by value, root 1
     ∷ accepted (d0 ∷ minus1 ∷ []) (RegulaFalsi (double d0) (double d1)) part1024 1 0 (d1 ∷ d0 ∷ []) 0 2 0
     -- W7 and W8: the last sample is not tested at the limit
-    ∷ refused (minus1 ∷ []) (Brent (double d0) (double d2)) part1024 1 8 1 4 0
-    ∷ accepted (minus1 ∷ []) (Brent (double d0) (double d2)) part1024 2 0 (d1 ∷ d0 ∷ []) 1 4 0
+    ∷ refused (minus1 ∷ []) (Brent (double d0) (double d2)) part1024 1 8 1 3 0
+    ∷ accepted (minus1 ∷ []) (Brent (double d0) (double d2)) part1024 2 0 (d1 ∷ d0 ∷ []) 1 3 0
     -- W9 and W10: by width
     ∷ accepted (d100 ∷ minus150 ∷ []) (Brent (double d0) (double d2)) d4 10 1 (d0 ∷ d0 ∷ d2 ∷ []) 0 2 0
     ∷ accepted (d100 ∷ minus150 ∷ []) (RegulaFalsi (double d0) (double d2)) d4 10 1 (nearest300by204 ∷ d0 ∷ d2 ∷ []) 0 2 0
@@ -170,14 +173,61 @@ limits =
     ∷ refused (d0 ∷ d1 ∷ []) (NewtonRaphson (double half)) part1024 plainLimit 8 30 30 30
     ∷ []
 
+-- ---- the bounds on values and derivatives are reached, at limits 1 and 3
+
+-- the calls of W1 to W5 with limit 3, and an eps so small that nothing stops them before
+unfoldable pub reaching : List Case
+reaching =
+    refused (d0 ∷ minus2 ∷ []) (Brent (double d0) (double d2)) least 3 8 3 5 0
+    ∷ refused (d0 ∷ minus2 ∷ []) (RegulaFalsi (double d0) (double d2)) least 3 8 3 5 0
+    ∷ refused (d0 ∷ minus2 ∷ []) (Secant (double d0) (double d2)) least 3 8 3 5 0
+    ∷ refused (d0 ∷ minus2 ∷ []) (NewtonRaphson (double d0)) least 3 8 3 3 3
+    ∷ refused (d0 ∷ minus2 ∷ []) (Polynom (double d0) (double d2)) least 3 8 3 8 3
+    ∷ []
+
+-- the counts of a case are its method's bounds
+unfoldable pub reachesBounds : Case → Bool
+reachesBounds c =
+    let stop = ruleOf (double (c .eps)) (c .limit) in
+    eqb (c .values) (mostValues (c .method) stop) && eqb (c .derivatives) (mostDerivatives (c .method) stop)
+
+unfoldable pub allReach : List Case → Bool
+allReach [] = true
+allReach (c ∷ rest) = cond (reachesBounds c) (allReach rest) false
+
+-- W1 to W5, and these
+pub bounds-reached : (allReach (take 5 cases) ≡ true) × (allReach reaching ≡ true)
+unfolding allReach cases reaching reachesBounds
+bounds-reached = (refl, refl)
+
+-- ---- W1, W7 and W8 by the definition with the Rust's evaluations: the kept end's value is worked out again in their one step
+
+unfoldable pub rustCases : List Case
+rustCases =
+    refused (d0 ∷ minus2 ∷ []) (Brent (double d0) (double d2)) part1024 1 8 1 4 0
+    ∷ refused (minus1 ∷ []) (Brent (double d0) (double d2)) part1024 1 8 1 4 0
+    ∷ accepted (minus1 ∷ []) (Brent (double d0) (double d2)) part1024 2 0 (d1 ∷ d0 ∷ []) 1 4 0
+    ∷ []
+
+-- whether the definition with the Rust's evaluations meets each
+unfoldable pub allMetAgain : List Case → Bool
+allMetAgain [] = true
+allMetAgain (c ∷ rest) = cond (agrees c (rustFoundBy (doubles (c .coefficients)) (ruleOf (double (c .eps)) (c .limit)) (c .method))) (allMetAgain rest) false
+
 -- ---- every call of a list gets exactly the answer that stands there
 
-both-hold : (allMet cases ≡ true) × (allMet limits ≡ true)
-unfolding allMet cases limits isMet agrees doubles sameBits answer badCount allFinite checkedOf badEps foundAt convergedAt absolute sameSign oppositeSign outside pulled atLeast atMost crosses middleOf markAfter sums value sumsBoth valueAndDerivative evaluated evaluatedBoth bind test stops sampled sampledBoth valueAt bothAt offered pulledInto rising productDeparts bracketed stepsTo narrowsTo run searches play answerOf br.arrange br.startOf br.opened br.secondAt br.firstAt br.opening br.inverseQuadratic br.chord br.threeValues br.guessOf br.beyondQuarter br.tooSlow br.stalls br.bisects br.usedOf br.nextOf br.keptA br.keptB br.stepDeparts br.arrived br.landed br.pulledIn br.stepWith br.stepFrom br.turnFrom br.brentProgram br.brent rf.secondAt rf.firstAt rf.ordered rf.opening rf.candidateOf rf.replacedOf rf.departs rf.arrived rf.landed rf.pulledIn rf.turnFrom rf.illinoisProgram rf.regulaFalsi sec.secondAt sec.firstAt sec.opening sec.candidateOf sec.arrived sec.landed sec.turnFrom sec.secantProgram sec.secant nr.newtonPoint nr.landed nr.onward nr.laterAt nr.turnFrom nr.nudgedTo nr.nudge nr.firstAt nr.opening nr.newtonProgram nr.newtonRaphson ps.secondAt ps.firstAt ps.ordered ps.opening ps.replacedOf ps.chosen ps.closer ps.newtonPoint ps.inPair ps.usable ps.atMiddle ps.stepAt ps.widthAt ps.pulledIn ps.atMiddleOf ps.turnFrom ps.polynomProgram ps.polynomSearch lt le eq ne neg sub add mul div ofBits toBits
-both-hold = (refl, refl)
+all-hold : (allMet cases ≡ true) × (allMet limits ≡ true) × (allMet reaching ≡ true) × (allMetAgain rustCases ≡ true)
+unfolding allMet cases limits reaching allMetAgain rustCases isMet agrees doubles sameBits answer badCount allFinite checkedOf badEps foundAt convergedAt absolute sameSign oppositeSign outside pulled atLeast atMost crosses middleOf markAfter sums value sumsBoth valueAndDerivative evaluated evaluatedBoth bind test stops sampled sampledBoth valueAt bothAt offered pulledInto rising productDeparts bracketed stepsTo narrowsTo run searches play answerOf br.arrange br.startOf br.opened br.secondAt br.firstAt br.opening br.inverseQuadratic br.chord br.threeValues br.guessOf br.beyondQuarter br.tooSlow br.stalls br.bisects br.usedOf br.nextOf br.pairAfter br.stepDeparts br.arrived br.landed br.pulledIn br.stepWith br.stepFrom br.turnFrom br.brentProgram br.brent rb.rustArrived rb.rustStep rb.rustTurn rb.rustProgram rb.rustBrent rf.secondAt rf.firstAt rf.ordered rf.opening rf.candidateOf rf.replacedOf rf.departs rf.arrived rf.landed rf.pulledIn rf.turnFrom rf.illinoisProgram rf.regulaFalsi sec.secondAt sec.firstAt sec.opening sec.candidateOf sec.arrived sec.landed sec.turnFrom sec.secantProgram sec.secant nr.newtonPoint nr.landed nr.onward nr.laterAt nr.turnFrom nr.nudgedTo nr.nudge nr.firstAt nr.opening nr.newtonProgram nr.newtonRaphson ps.secondAt ps.firstAt ps.ordered ps.opening ps.replacedOf ps.chosen ps.closer ps.newtonPoint ps.inPair ps.usable ps.atMiddle ps.stepAt ps.widthAt ps.pulledIn ps.atMiddleOf ps.turnFrom ps.polynomProgram ps.polynomSearch lt le eq ne neg sub add mul div ofBits toBits
+all-hold = (refl, refl, refl, refl)
 
 pub cases-hold : allMet cases ≡ true
-cases-hold = both-hold .0
+cases-hold = all-hold .0
 
 pub limits-hold : allMet limits ≡ true
-limits-hold = both-hold .1
+limits-hold = all-hold .1
+
+pub reaching-hold : allMet reaching ≡ true
+reaching-hold = all-hold .2
+
+pub rust-cases-hold : allMetAgain rustCases ≡ true
+rust-cases-hold = all-hold .3

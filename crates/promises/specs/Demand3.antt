@@ -25,7 +25,8 @@ use Rattle.searching.specs.ExactLaws.{decided, tests-honest, points-finite, exa
 use Rattle.roots.specs.Calls.{startsOf, answer}
 use Rattle.roots.specs.declared.Method.{Method}
 use Rattle.roots.specs.declared.Method.the-variants.{RegulaFalsi}
-use Rattle.promises.specs.Searches.{ruleOf, historyOf, Passes, Held, mostValues, mostDerivatives, mostSteps, followsOf, givesOf, Flat, Marks, Bracketed, Truthful, NestedByOrder}
+use Rattle.promises.specs.Counts.{ruleOf, mostValues, mostDerivatives}
+use Rattle.promises.specs.Searches.{historyOf, Passes, Held, mostSteps, followsOf, givesOf, Flat, Marks, Bracketed, Truthful, NestedByOrder}
 use Rattle.promises.specs.EarlyLaws.{atOnce, passes-at-once}
 use Rattle.promises.specs.AnswerLaws.{counts-of, history-truthful}
 use Rattle.promises.specs.EndLaws.{reason-of, value-true, width-true}

@@ -30,7 +30,8 @@ use Rattle.roots.specs.declared.Method.{Method}
 use Rattle.roots.specs.declared.Method.the-variants.{Brent, RegulaFalsi, Secant, NewtonRaphson, Polynom}
 use Rattle.promises.specs.EarlyLaws.{atOnce}
 use Rattle.promises.specs.AnswerLaws.{passed, at-answer}
-use Rattle.promises.specs.Searches.{ruleOf, programOf, historyOf, Held, mostSteps, Bracketed}
+use Rattle.promises.specs.Counts.{ruleOf}
+use Rattle.promises.specs.Searches.{programOf, historyOf, Held, mostSteps, Bracketed}
 
 -- a start that is finite and held by the format is a double
 start-double : (x : Float) → T (fits binary64 x) → finite x ≡ true → Double x

@@ -33,7 +33,8 @@ use Rattle.promises.specs.EarlyLaws.{atOnce}
 use Rattle.promises.specs.AnswerLaws.{passed, at-answer, counts-of}
 use Rattle.promises.specs.EndLaws.{reason-of, six-told}
 use Rattle.promises.specs.MarkLaws.{plain-secant, plain-newton, two-marks}
-use Rattle.promises.specs.Searches.{ruleOf, programOf, historyOf, Held, followsOf, givesOf, Flat, Marks, Bracketed}
+use Rattle.promises.specs.Counts.{ruleOf}
+use Rattle.promises.specs.Searches.{programOf, historyOf, Held, followsOf, givesOf, Flat, Marks, Bracketed}
 
 -- ---- a method at a time
 

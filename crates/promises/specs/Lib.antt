@@ -1,7 +1,9 @@
--- What is promised of every search, as theorems. A customer reads Cases, Demand1, Demand3 and Returned, with the words in Searches.
+-- What is promised of every search, as theorems. A customer reads Cases, Demand1, Demand2, Demand3 and Returned, with the words in Counts and Searches.
 pub mod Cases
+pub mod Counts
 pub mod Searches
 pub mod Demand1
+pub mod Demand2
 pub mod Demand3
 pub mod Returned
 -- lemmas that only proofs read

@@ -26,7 +26,8 @@ use Rattle.roots.specs.declared.Method.the-variants.{RegulaFalsi, Secant, Newto
 use Rattle.promises.specs.EarlyLaws.{atOnce}
 use Rattle.promises.specs.AnswerLaws.{byNumber, answer-is, passed, at-answer}
 use Rattle.promises.specs.RefusalLaws.{at-most-five}
-use Rattle.promises.specs.Searches.{ruleOf, programOf}
+use Rattle.promises.specs.Counts.{ruleOf}
+use Rattle.promises.specs.Searches.{programOf}
 
 -- ---- secant and Newton: no mark and no 6
 

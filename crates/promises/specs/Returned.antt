@@ -1,4 +1,4 @@
--- What the code returns: whatever the contracts of `search` and of `roots_search` allow keeps demands 1 and 3.
+-- What the code returns: whatever the contracts of `search` and of `roots_search` allow keeps demands 1, 2 and 3.
 -- An argument is what the language gives it to be (`GoodsP`): of an f64, a value of the format.
 use Prim.Native.Nat.{ℕ, zero, suc, _≤_, _<_}
 use native.Mathlib.Omega.{arith}
@@ -29,17 +29,19 @@ use Rattle.roots_c.specs.declared.Chosen.{Chosen}
 use Rattle.roots_c.specs.declared.Chosen.the-variants.{Known, Unknown}
 use Rattle.roots.specs.declared.Method.the-variants.{Brent, RegulaFalsi, Secant, NewtonRaphson, Polynom}
 use Rattle.promises.specs.Demand1.{Demand1, demand-1}
+use Rattle.promises.specs.Demand2.{Demand2, demand-2}
 use Rattle.promises.specs.Demand3.{Demand3, Demand3Pairs, demand-3, demand-3-pairs}
 use Rattle.promises.specs.Searches.{Passes, Held, Bracketed}
 
 -- what is promised of an outcome
 pub record Promised (a : List Float) (m : Method) (eps : Float) (limit : ℕ) (outcome : Outcome) : Type 0 where
   pub demand1 : Demand1 a m eps limit outcome
+  pub demand2 : Passes a m eps limit → Demand2 a m eps limit outcome
   pub demand3 : Passes a m eps limit → Demand3 a m eps limit outcome
   pub demand3-pairs : Passes a m eps limit → (u v : Float) → Bracketed m u v → Demand3Pairs a m eps limit u v outcome
 
 promised : (a : List Float) (m : Method) (eps : Float) (limit : ℕ) → Held (startsOf m) → Promised a m eps limit (answer a m eps limit)
-promised a m eps limit d = record { demand1 = demand-1 a m eps limit d; demand3 = λ p. demand-3 a m eps limit p d; demand3-pairs = λ p. demand-3-pairs a m eps limit p d }
+promised a m eps limit d = record { demand1 = demand-1 a m eps limit d; demand2 = demand-2 a eps limit m; demand3 = λ p. demand-3 a m eps limit p d; demand3-pairs = λ p. demand-3-pairs a m eps limit p d }
 
 -- ---- search
 

@@ -1,5 +1,5 @@
--- The words of the promises: a call's program and history, which calls 1 to 5 refuse, and the bounds. Definitions only.
-use Prim.Native.Nat.{ℕ, _+_, _*_, _≤_, _<_, max}
+-- The words of the promises: a call's program and history, which calls 1 to 5 refuse, and what a method's events are. Definitions only.
+use Prim.Native.Nat.{ℕ, _≤_, _<_, max}
 use mathlib.Core.Bool.{true, false, cond}
 use mathlib.Core.List.{List, [], _∷_, List·Memᴰ}
 use mathlib.Core.Logic.{_⊎_}
@@ -33,11 +33,9 @@ use Rattle.polynom_search.specs.PolynomSearchEvents as polynom
 use Rattle.roots.specs.Calls.{startsOf}
 use Rattle.roots.specs.declared.Method.{Method}
 use Rattle.roots.specs.declared.Method.the-variants.{Brent, RegulaFalsi, Secant, NewtonRaphson, Polynom}
+use Rattle.promises.specs.Counts.{ruleOf}
 
--- the stop rule of a call, its program, and its history, newest event first
-abbrev pub ruleOf : Float → ℕ → StopRule
-ruleOf eps limit = record { eps = eps; limit = limit }
-
+-- a call's program, and its history, newest event first
 abbrev pub programOf : StopRule → Method → Prog Answer
 programOf stop (Brent from to) = brentProgram stop from to
 programOf stop (RegulaFalsi from to) = illinoisProgram stop from to
@@ -82,21 +80,6 @@ pub record Passes (a : List Float) (m : Method) (eps : Float) (limit : ℕ) : Ty
 abbrev pub Held : List Float → Type 0
 Held [] = Unit {0}
 Held (x ∷ rest) = T (fits binary64 x) × Held rest
-
--- "Values at most .." and "derivatives at most ..", with m the larger of 1 and limit
-abbrev pub mostValues : Method → StopRule → ℕ
-mostValues (Brent from to) stop = 2 + 2 * turnsOf stop
-mostValues (RegulaFalsi from to) stop = 2 + turnsOf stop
-mostValues (Secant first second) stop = 2 + turnsOf stop
-mostValues (NewtonRaphson start) stop = max 2 (stop .limit)
-mostValues (Polynom from to) stop = 2 + 2 * turnsOf stop
-
-abbrev pub mostDerivatives : Method → StopRule → ℕ
-mostDerivatives (Brent from to) stop = 0
-mostDerivatives (RegulaFalsi from to) stop = 0
-mostDerivatives (Secant first second) stop = 0
-mostDerivatives (NewtonRaphson start) stop = max 2 (stop .limit)
-mostDerivatives (Polynom from to) stop = turnsOf stop
 
 -- the steps at which the limit is reached: the larger of 1 and limit, and for Newton from a flat start the larger of 2 and limit
 abbrev pub mostSteps : List Float → StopRule → Method → ℕ

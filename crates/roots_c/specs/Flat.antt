@@ -53,4 +53,4 @@ module _ (a : List Float) (method : ℕ) (first second eps : Float) (limit : ℕ
 
 -- the version of the interface that C sees
 abbrev pub version : ℕ
-version = 1
+version = 2

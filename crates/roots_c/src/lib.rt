@@ -114,5 +114,5 @@ pub extern "C" fn roots_search(
 pub extern "C" fn roots_version() -> u64
     ensures { λ r. ⌜ r ≡ version ⌝ }
 {
-    1
+    2
 }

@@ -2,7 +2,7 @@
 use Prim.Native.Nat.{ℕ, zero, suc}
 use mathlib.Core.Bool.{Bool, true, false}
 use mathlib.Core.List.{List, [], _∷_}
-use mathlib.Core.Path.{_≡_, refl, ap, sym, _∙_, subst}
+use mathlib.Core.Path.{_≡_, refl, subst}
 use lib.Ieee.{Float}
 use lib.Ieee.Scale.{finite}
 use Rattle.doubles.specs.Doubles.{outside, pulled, sameSign}
@@ -17,7 +17,7 @@ use Rattle.polynom.specs.declared.Evaluated.{Evaluated}
 use Rattle.polynom.specs.declared.Evaluated.the-variants.{At, NotFinite}
 use Rattle.polynom.specs.declared.EvaluatedBoth.{EvaluatedBoth}
 use Rattle.polynom.specs.declared.EvaluatedBoth.the-variants.{Both, NotBothFinite}
-use Rattle.searching.specs.Programs.{Test, holds, alike, Note, tested, candidate, ruled, paired, stepped, Prog, done, log, Turned, ended, next, bind, test, stops, sampled, sampledBoth, valueAt, bothAt, offered, pulledInto, productDeparts, bracketed, stepsTo, narrowsTo, run, searches, Oracle, oracle, Event, asked, askedBoth, noted, play, tallied}
+use Rattle.searching.specs.Programs.{Test, holds, alike, Note, tested, candidate, ruled, paired, stepped, Prog, done, log, Turned, ended, next, bind, test, stops, sampled, sampledBoth, valueAt, bothAt, offered, pulledInto, productDeparts, bracketed, stepsTo, narrowsTo, run, searches, Oracle, Event, asked, askedBoth, noted, play, tallied}
 use Rattle.searching.specs.Histories.{listed}
 use Rattle.searching.specs.ProgramLaws.{play-bind, play-end}
 
@@ -114,13 +114,9 @@ abbrev pub After : {S : Type 0} → (S → List Event → Type 0) → (Answer �
 After Inv Post (ended a) h = Post a h
 After Inv Post (next s) h = Inv s h
 
--- the state that the code's book ends at is one where Inv holds, with some history
-pub state-there :
-    {S : Type 0} {Inv : S → List Event → Type 0} {Post : Answer → List Event → Type 0} (cs : List Float) (g : Prog (Turned S)) (p : Progress) {q : Progress} {s : S} →
-    Ends (oracle cs) (After Inv Post) g [] → (next s, q) ≡ play tallied (oracle cs) g p → (h : List Event) × Inv s h
-state-there {S} {Inv} {Post} cs g p k e =
-    let h = play listed (oracle cs) g [] .1 in
-    (h, subst (λ (r : Turned S). After Inv Post r h) (play-end listed tallied (oracle cs) g [] p ∙ sym (ap (λ (r : Turned S × Progress). r .0) e)) (k .there))
+-- the book of tallies ends where the list does
+pub ends-tallied : {A : Type 0} {o : Oracle} {Q : A → List Event → Type 0} {g : Prog A} {h : List Event} (p : Progress) → Ends o Q g h → Q (play tallied o g p .0) (play listed o g h .1)
+ends-tallied {A} {o} {Q} {g} {h} p e = subst (λ (a : A). Q a (play listed o g h .1)) (play-end listed tallied o g h p) (e .there)
 
 module _ {S : Type 0} {o : Oracle} (turn : S → Prog (Turned S)) (Inv : ℕ → S → List Event → Type 0) (Post : Answer → List Event → Type 0) where
   -- with n turns left

@@ -1,6 +1,5 @@
 use Rattle.numerical.specs.TallyLaws.{room}
 use Rattle.searching.specs.LoopLaws.{opened-room}
-use Rattle.brent.specs.BrentSamples.{evaluations-first}
 use Rattle.brent.specs.BrentLaws.{from-end, from-state, small-opening}
 use native.Mathlib.Omega.{arith}
 use borrow.Author.Needs.{needs}
@@ -25,7 +24,7 @@ turns-requires c κs = search needs
 searched-requires : tie.Need-searched-requires
 searched-requires c κs =
     let opened = c .before .before .before .before .before .opening .ensures (c .before .before .before .before .before .before .before .before .args .stop) in
-    (omega (arith, c .turns .ensures), search (opened-room, small-opening, opened), search (evaluations-first, opened))
+    (omega (arith, c .turns .ensures), search (opened-room, small-opening, opened))
 
 returns : tie.Need-returns
 returns c = search (from-end, c .before .before .before .before .opening .ensures)

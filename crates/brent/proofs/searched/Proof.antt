@@ -1,7 +1,6 @@
 use Rattle.searching.specs.LoopLaws.{Loops, runOf, loops-first, loops-next, loops-room, loops-ended, loops-out}
 use Rattle.brent.specs.BrentLaws.{turns}
-use Rattle.brent.specs.BrentSamples.{evaluations-next}
-use Rattle.brent.specs.Brent.{Evaluations, turnFrom}
+use Rattle.brent.specs.Brent.{turnFrom}
 use Prim.Native.Nat.{_-_}
 use native.Mathlib.Omega.{arith}
 use borrow.Author.Needs.{needs}
@@ -9,16 +8,16 @@ use Rattle.brent.proofs.searched.Statement.{statement}
 use Rattle.brent.proofs.searched.Tie as tie
 
 abbrev Inv-loop : tie.InvT-loop
-Inv-loop a stop most s₀ p₀ n₀ s p n = Loops (turns stop) a (runOf a (turnFrom stop) most s₀ p₀) most n s p × Evaluations a s
+Inv-loop a stop most s₀ p₀ n₀ s p n = Loops (turns stop) a (runOf a (turnFrom stop) most s₀ p₀) most n s p
 
 abbrev μ-loop : tie.MeasureT-loop
 μ-loop a stop most s₀ p₀ n₀ s p n = most - n
 
 loop-holds : tie.Need-loop-holds Inv-loop μ-loop
-loop-holds c = (search loops-first, search evaluations-next)
+loop-holds c = search loops-first
 
 take-turn-requires : tie.Need-take-turn-requires Inv-loop μ-loop
-take-turn-requires c κs = (search loops-room, search needs)
+take-turn-requires c κs = search loops-room
 
 enum-known-to : tie.Need-enum-known-to Inv-loop μ-loop
 enum-known-to c = search needs
@@ -36,7 +35,7 @@ loop-less : tie.Need-loop-less Inv-loop μ-loop
 loop-less c = omega arith
 
 loop-again : tie.Need-loop-again Inv-loop μ-loop
-loop-again c = (search loops-next, search evaluations-next)
+loop-again c = search loops-next
 
 returns-2 : tie.Need-returns-2 Inv-loop μ-loop
 returns-2 c = search loops-out

@@ -1,7 +1,7 @@
+use Rattle.numerical.specs.TallyLaws.{room}
 use Rattle.searching.specs.StepLaws.{by-held, by-missed, by-done}
-use Rattle.numerical.specs.declared.Answer.the-variants.{ByWidth}
 use Rattle.searching.specs.Programs.{ended}
-use Rattle.brent.specs.Brent.{turnFrom}
+use Rattle.brent.specs.Brent.{byWidth, turnFrom}
 use borrow.Author.Needs.{needs}
 use Rattle.brent.proofs.take_turn.Statement.{statement}
 use Rattle.brent.proofs.take_turn.Tie as tie
@@ -42,10 +42,10 @@ returns-3 c =
     by-missed _ _ _ _ _ _ (first .before .found .ensures) (first .if1 .left)
     (by-missed _ _ _ _ _ _ (second .before .found2 .ensures) (second .if2 .left)
     (by-held _ _ _ _ _ _ (close .before .converged .ensures) (close .if3 .taken)
-    (by-done _ _ (ended (ByWidth (s .c .x) (s .a .x) (s .b .x))) (c .ended3 .ensures))))
+    (by-done _ _ (ended (byWidth s)) (c .ended3 .ensures))))
 
 step-from-requires : tie.Need-step-from-requires
-step-from-requires c κs = search needs
+step-from-requires c κs = search (needs, room)
 
 returns-4 : tie.Need-returns-4
 unfolding turnFrom

@@ -1,13 +1,8 @@
-use Rattle.numerical.specs.TallyLaws.{room}
-use Rattle.searching.specs.StepLaws.{by-value, by-narrow-to}
-use Rattle.brent.specs.Brent.{keptB}
+use Rattle.searching.specs.StepLaws.{by-narrow-to}
 use Rattle.brent.specs.BrentLaws.{moved-larger, moved-not-larger}
 use borrow.Author.Needs.{needs}
-use Rattle.brent.proofs.keep_b.Statement.{statement}
-use Rattle.brent.proofs.keep_b.Tie as tie
-
-valued-requires : tie.Need-valued-requires
-valued-requires c κs = search needs
+use Rattle.brent.proofs.step_to.Statement.{statement}
+use Rattle.brent.proofs.step_to.Tie as tie
 
 abs-requires : tie.Need-abs-requires
 abs-requires c κs = search needs
@@ -19,33 +14,30 @@ moved-requires : tie.Need-moved-requires
 moved-requires c κs = search needs
 
 stepped-requires : tie.Need-stepped-requires
-stepped-requires c κs = search (needs, room)
+stepped-requires c κs = search needs
 
 goes-on-requires : tie.Need-goes-on-requires
 goes-on-requires c κs = search needs
 
 returns : tie.Need-returns
-unfolding keptB
-returns c = λ cs known. search (by-value, by-narrow-to, moved-larger)
+returns c = λ cs. search (by-narrow-to, moved-larger)
 
 moved-requires-2 : tie.Need-moved-requires-2
 moved-requires-2 c κs = search needs
 
 stepped-requires-2 : tie.Need-stepped-requires-2
-stepped-requires-2 c κs = search (needs, room)
+stepped-requires-2 c κs = search needs
 
 goes-on-requires-2 : tie.Need-goes-on-requires-2
 goes-on-requires-2 c κs = search needs
 
 returns-2 : tie.Need-returns-2
-unfolding keptB
-returns-2 c = λ cs known. search (by-value, by-narrow-to, moved-not-larger)
+returns-2 c = λ cs. search (by-narrow-to, moved-not-larger)
 
-pub keep-b-spec : {M : Type 1} → statement M
-keep-b-spec =
+pub step-to-spec : {M : Type 1} → statement M
+step-to-spec =
     tie.close
     (tie.spec
-    valued-requires
     abs-requires
     abs-requires-2
     moved-requires
