@@ -97,6 +97,72 @@ uint64_t roots_search(const double *coefficients, size_t count, uint64_t method,
 /* The version of the interface that the archive has: ROOTS_VERSION. */
 uint64_t roots_version(void);
 
+/*
+ * Records: a search on file, in the bytes that docs/RECORDS.md lays out. What is written and read is
+ * proved to equal the definitions of crates/roots_c/specs/FlatRecords.antt for every input.
+ */
+
+/* No record is longer, so that many bytes always suffice. */
+#define ROOTS_LONGEST_RECORD 256
+
+/* Refusals of a record. 11 is given before 10. */
+enum roots_record_refusal {
+    ROOTS_NO_ROOM = 10,  /* writing: the buffer is shorter than the record */
+    ROOTS_NO_RECORD = 11 /* the bytes, or the call and answer to be written, are no record */
+};
+
+/*
+ * Writes the record of a call and its answer to the start of a buffer.
+ *
+ *   coefficients .. limit  the call, as roots_search takes it; with ROOTS_NEWTON second is not looked at
+ *   kind                   what roots_search returned
+ *   numbers, tallies       what it left there; of numbers only those that the kind has are looked at
+ *   bytes                  room bytes. The record goes to their start, and what is behind it stays.
+ *                          With room 0 the pointer is not looked at and may be null.
+ *   length                 one word, always written: the record's bytes, or 0 where it is refused
+ *
+ * Returns 0, or one of enum roots_record_refusal, which leaves the bytes as they were. A call that 1
+ * to 5 refuse, an unknown method, a number of the answer that is not finite, a kind other than 0, 1 and
+ * 16 to 19 and a mark above 2 have no record. Nothing else is asked: any steps, values and derivatives
+ * may be written.
+ */
+uint64_t roots_record_write(const double *coefficients, size_t count, uint64_t method, double first,
+                            double second, double eps, uint64_t limit, uint64_t kind,
+                            const double numbers[3], const uint64_t tallies[4], uint8_t *bytes,
+                            size_t room, uint64_t *length);
+
+/* What stands where in the points and the words of a record that was read. */
+enum roots_record_point {
+    ROOTS_FIRST = 0,  /* the first start */
+    ROOTS_SECOND = 1, /* the second start; +0.0 with ROOTS_NEWTON */
+    ROOTS_EPS = 2
+};
+
+enum roots_record_word {
+    ROOTS_LENGTH = 0, /* the record's bytes: the next one begins behind them */
+    ROOTS_METHOD = 1,
+    ROOTS_COUNT = 2, /* of the coefficients */
+    ROOTS_LIMIT = 3,
+    ROOTS_KIND = 4
+};
+
+/*
+ * Reads the record at the start of a buffer; what is behind it is not looked at.
+ *
+ *   bytes         room bytes, only read. With room 0 the pointer is not looked at and may be null.
+ *   coefficients  16 doubles: the record's, a[0] first, and +0.0 behind them
+ *   points        three doubles, by enum roots_record_point
+ *   numbers       three doubles and
+ *   tallies       four words, as roots_search leaves them
+ *   words         five words, by enum roots_record_word
+ *
+ * Returns 0, or ROOTS_NO_RECORD: to be tested first, since all five buffers are written by every call,
+ * with all zero where it is refused, and kind 0 is by value. None of the buffers of these two calls may overlap another.
+ */
+uint64_t roots_record_read(const uint8_t *bytes, size_t room, double coefficients[16],
+                           double points[3], double numbers[3], uint64_t tallies[4],
+                           uint64_t words[5]);
+
 #ifdef __cplusplus
 }
 #endif

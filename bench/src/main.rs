@@ -1,54 +1,21 @@
 // The same calls through the proved archive and through the crate roots 0.0.8, as it is and made to tell as much, timed side by side.
+// Records likewise, beside a plain Rust writer and reader.
 mod calls;
+mod plain;
+mod record_sides;
+mod records;
 mod sides;
+mod timing;
 mod told;
 
 use calls::{calls_of, Call, Method, Row, COUNTS, METHODS, ROWS};
 use sides::{checked, summed, Side};
 use std::process::exit;
-
-// Every cell is timed in each round, so that a slow spell of the machine does not fall on one cell only.
-const ROUNDS: usize = 20;
-const BATCHES: usize = 20;
-const BATCH_NANOSECONDS: f64 = 1e6;
-
-#[repr(C)]
-struct Time {
-    seconds: i64,
-    nanoseconds: i64,
-}
-
-extern "C" {
-    fn clock_gettime(clock: i32, time: *mut Time) -> i32;
-}
-
-// The processor time of this thread: what other work takes is not in it.
-fn now() -> f64 {
-    const THREAD_TIME: i32 = 3;
-    let mut time = Time { seconds: 0, nanoseconds: 0 };
-    // SAFETY: the pointer is to a live timespec of Linux on a 64-bit machine.
-    if unsafe { clock_gettime(THREAD_TIME, &mut time) } != 0 {
-        fail("no thread clock");
-    }
-    time.seconds as f64 * 1e9 + time.nanoseconds as f64
-}
+use timing::{batch, passes_of, BATCHES, BATCH_NANOSECONDS, ROUNDS};
 
 pub fn fail(what: &str) -> ! {
     eprintln!("{what}");
     exit(1)
-}
-
-fn batch(side: Side, calls: &[Call], passes: usize, expected: u64) -> f64 {
-    let begun = now();
-    let mut sum = 0u64;
-    for _ in 0..passes {
-        sum = sum.wrapping_add(summed(side, calls));
-    }
-    let taken = now() - begun;
-    if sum != expected.wrapping_mul(passes as u64) {
-        fail("a timed batch gave other answers than the checked calls");
-    }
-    taken
 }
 
 struct Cell {
@@ -85,13 +52,7 @@ impl Cell {
             values += tallies[1];
             derivatives += tallies[2];
         }
-        let passes = sides_of(method)
-            .iter()
-            .map(|side| {
-                let once = (0..5).map(|_| batch(*side, &calls, 4, expected) / 4.0).fold(f64::INFINITY, f64::min);
-                (BATCH_NANOSECONDS / once).ceil() as usize
-            })
-            .collect();
+        let passes = sides_of(method).iter().map(|side| passes_of(|| summed(*side, &calls), expected)).collect();
         let n = calls.len() as f64;
         let (values, derivatives) = (values as f64 / n, derivatives as f64 / n);
         Some(Cell { row, method, count, calls, expected, values, derivatives, passes, least: [f64::INFINITY; 3] })
@@ -101,7 +62,7 @@ impl Cell {
     fn round(&mut self) {
         for _ in 0..BATCHES {
             for (i, side) in sides_of(self.method).iter().enumerate() {
-                let taken = batch(*side, &self.calls, self.passes[i], self.expected) / self.passes[i] as f64;
+                let taken = batch(|| summed(*side, &self.calls), self.passes[i], self.expected) / self.passes[i] as f64;
                 self.least[i] = self.least[i].min(taken);
             }
         }
@@ -134,22 +95,32 @@ impl Cell {
     }
 }
 
-fn measured() -> Vec<Cell> {
+fn cells() -> Vec<Cell> {
     let mut cells = Vec::new();
     for row in ROWS {
         for method in METHODS {
             cells.extend(COUNTS.into_iter().filter_map(|count| Cell::new(row, method, count)));
         }
     }
-    for _ in 0..ROUNDS {
-        cells.iter_mut().for_each(Cell::round);
-    }
     cells
 }
 
-fn tables() {
-    let cells = measured();
+// The tables of searches, unless only those of records are asked for, and the tables of records.
+fn tables(searches: bool) {
+    let mut cells = if searches { cells() } else { Vec::new() };
+    let mut of_records = records::cells();
+    for _ in 0..ROUNDS {
+        cells.iter_mut().for_each(Cell::round);
+        of_records.iter_mut().for_each(records::Cell::round);
+    }
     println!("ns: the least of {} batches of {} ms of thread time, in {ROUNDS} rounds", ROUNDS * BATCHES, BATCH_NANOSECONDS / 1e6);
+    if searches {
+        search_tables(&cells);
+    }
+    records::tables(&of_records);
+}
+
+fn search_tables(cells: &[Cell]) {
     for row in ROWS {
         println!("\n## {}\n", row.words());
         println!("| Method | coefficients | calls | values | derivatives | proved, ns | Rust, ns | ratio | Rust telling, ns | ratio |");
@@ -194,15 +165,38 @@ fn one_cell(words: &[String]) -> Option<()> {
     Some(())
 }
 
+// The same for records.
+fn one_cell_of_records(words: &[String]) -> Option<()> {
+    let [work, count, side, passes] = words else { return None };
+    let work = records::WORKS.into_iter().find(|w| w.words() == work)?;
+    let drawn = records::Drawn::new(count.parse().ok().filter(|n| COUNTS.contains(n))?);
+    let side = match side.as_str() {
+        "proved" => records::Side::Proved,
+        "rust" => records::Side::Rust,
+        _ => return None,
+    };
+    for _ in 0..passes.parse::<usize>().ok()? {
+        std::hint::black_box(drawn.summed(work, side));
+    }
+    println!("{}", drawn.len());
+    Some(())
+}
+
 fn main() {
     let words: Vec<String> = std::env::args().skip(1).collect();
     match words.first().map(String::as_str) {
-        None => tables(),
+        None => tables(true),
+        Some("--records") => tables(false),
         Some("--cell") => {
             if one_cell(&words[1..]).is_none() {
                 fail("--cell search|at-once|refused METHOD COUNT proved|rust|telling PASSES");
             }
         }
-        Some(_) => fail("bench [--cell ..]"),
+        Some("--record-cell") => {
+            if one_cell_of_records(&words[1..]).is_none() {
+                fail("--record-cell writing|reading COUNT proved|rust PASSES");
+            }
+        }
+        Some(_) => fail("bench [--records | --cell .. | --record-cell ..]"),
     }
 }

@@ -20,9 +20,14 @@
 //! println!("{refused}");
 //! ```
 //!
-//! Nothing here computes an answer. The proof covers the archive's source; the compiler's back end and this file are not proved.
+//! A search goes on file as a [`Record`], whose bytes any machine reads back.
+//!
+//! Nothing here computes an answer. The proof covers the archive's source; the compiler's back end and this crate's own lines are not proved.
 #![deny(missing_docs)]
 
+mod records;
+
+pub use records::{Method, Record, RecordError};
 use std::error::Error;
 use std::fmt;
 
@@ -180,6 +185,11 @@ fn search(method: u64, first: f64, second: f64, a: &[f64], convergency: &mut dyn
             counts.as_mut_ptr(),
         )
     };
+    answer_of(kind, numbers, counts)
+}
+
+// What a kind, its numbers and the tallies say.
+fn answer_of(kind: u64, numbers: [f64; 3], counts: [u64; 4]) -> Result<Found, Refusal> {
     let tally = Tally {
         steps: counts[0],
         values: counts[1],

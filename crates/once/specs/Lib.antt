@@ -12,5 +12,8 @@ pub mod RegulaFalsi
 pub mod PolynomSearch
 pub mod Brent
 pub mod Roots
+pub mod Rows
+pub mod Records
 pub mod RootsC
 pub mod LineText
+pub mod RecordText

@@ -6,6 +6,9 @@ use Rattle.roots.proofs.find_root_regula_falsi.Reads as find-root-regula-falsi-
 use Rattle.roots.proofs.find_root_secant.Reads as find-root-secant-reads
 use Rattle.roots.proofs.find_root_newton_raphson.Reads as find-root-newton-raphson-reads
 use Rattle.roots.proofs.find_root_polynom.Reads as find-root-polynom-reads
+use Rattle.roots.proofs.Method.numbered.Reads as numbered-reads
+use Rattle.roots.proofs.Method.start_count.Reads as start-count-reads
+use Rattle.roots.proofs.Method.number.Reads as number-reads
 use Rattle.once.specs.One.{One, fixed}
 
 pub search-once : One search-reads.Learnt
@@ -28,3 +31,12 @@ find-root-newton-raphson-once = fixed _ _
 
 pub find-root-polynom-once : One find-root-polynom-reads.Learnt
 find-root-polynom-once = fixed _ _
+
+pub numbered-once : One numbered-reads.Learnt
+numbered-once = fixed _ _
+
+pub start-count-once : One start-count-reads.Learnt
+start-count-once = fixed _ _
+
+pub number-once : One number-reads.Learnt
+number-once = fixed _ _

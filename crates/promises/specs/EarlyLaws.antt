@@ -17,19 +17,19 @@ use Rattle.roots.specs.declared.Method.{Method}
 use Rattle.promises.specs.Searches.{BadCount, SomeNotFinite, BadEps, Early, one, two, three, four, five, Passes}
 
 -- a test tells whether P holds
-record Tells (P : Type 0) (b : Bool) : Type 0 where
-  yes : b ≡ true → P
-  no : b ≡ false → ¬ P
+pub record Tells (P : Type 0) (b : Bool) : Type 0 where
+  pub yes : b ≡ true → P
+  pub no : b ≡ false → ¬ P
 
 module _ {P : Type 0} {b : Bool} (t : Tells P b) where
-  is-so : P → b ≡ true
+  pub is-so : P → b ≡ true
   is-so p = go b refl
     where
       go : (c : Bool) → b ≡ c → b ≡ true
       go true e = e
       go false e = absurd (t .no e p)
 
-  is-not : ¬ P → b ≡ false
+  pub is-not : ¬ P → b ≡ false
   is-not n = go b refl
     where
       go : (c : Bool) → b ≡ c → b ≡ false
@@ -38,7 +38,7 @@ module _ {P : Type 0} {b : Bool} (t : Tells P b) where
 
 -- ---- each of the five
 
-tells-count : (a : List Float) → Tells (BadCount a) (badCount (length a))
+pub tells-count : (a : List Float) → Tells (BadCount a) (badCount (length a))
 unfolding badCount
 tells-count a = record { yes = yes (eqb (length a) 0) refl; no = no (eqb (length a) 0) refl }
   where
@@ -65,13 +65,13 @@ each-finite (y ∷ rest) x (List·Memᴰ·head p) e = ap finite p ∙ first-of y
 each-finite (y ∷ rest) x (List·Memᴰ·tail k) e = each-finite rest x k (first-of y rest e .1)
 
 -- the test of finiteness holds where nothing is bad
-tells-finite : (l : List Float) → Tells (¬ SomeNotFinite l) (allFinite l)
+pub tells-finite : (l : List Float) → Tells (¬ SomeNotFinite l) (allFinite l)
 tells-finite l = record { yes = λ e s. true≢false (sym (each-finite l (s .0) (s .1) e) ∙ s .2); no = λ e n. n (some-not l e) }
 
 all-finite : (l : List Float) → SomeNotFinite l → allFinite l ≡ false
 all-finite l s = is-not (tells-finite l) (λ n. n s)
 
-tells-eps : (eps : Float) → Tells (BadEps eps) (badEps eps)
+pub tells-eps : (eps : Float) → Tells (BadEps eps) (badEps eps)
 unfolding badEps
 tells-eps eps = record { yes = yes (finite eps) refl; no = no (finite eps) refl }
   where
@@ -84,7 +84,7 @@ tells-eps eps = record { yes = yes (finite eps) refl; no = no (finite eps) refl 
     no true e k (inr f) = true≢false (sym f ∙ k)
     no false e k bad = true≢false k
 
-tells-limit : (limit : ℕ) → Tells (greatestLimit < limit) (ltb greatestLimit limit)
+pub tells-limit : (limit : ℕ) → Tells (greatestLimit < limit) (ltb greatestLimit limit)
 tells-limit limit = record { yes = ltb-true greatestLimit limit; no = λ e l. omega (arith, ltb-false greatestLimit limit e, l) }
 
 -- ---- the first of them

@@ -7,6 +7,7 @@ ghost use mathlib.Core.List.{[], _∷_};
 ghost use Prim.Native.Nat.{_≤_};
 ghost use Rattle.simple_convergency.specs.Stop.{greatestLimit, plainLimit};
 ghost use Rattle.roots.specs.Calls.{badCount, allFinite, startsOf, foundBy, answer};
+ghost use Rattle.roots.specs.Methods.{methodNumber, startCount, methodOf};
 
 // A method with its starts.
 pub enum Method {
@@ -15,6 +16,52 @@ pub enum Method {
     Secant { first: f64, second: f64 },
     NewtonRaphson { start: f64 },
     Polynom { from: f64, to: f64 },
+}
+
+impl Method {
+    // The method of a number from 1 to 5, with its starts; Newton has the first alone.
+    pub fn numbered(number: u8, first: f64, second: f64) -> Method
+        ensures { λ r. ⌜ r ≡ methodOf number first second ⌝ }
+    {
+        match number {
+            1 => Method::Brent {
+                from: first,
+                to: second,
+            },
+            2 => Method::RegulaFalsi {
+                from: first,
+                to: second,
+            },
+            3 => Method::Secant { first, second },
+            4 => Method::NewtonRaphson { start: first },
+            _ => Method::Polynom {
+                from: first,
+                to: second,
+            },
+        }
+    }
+
+    // How many starts the method of a number has.
+    pub fn start_count(number: u8) -> usize
+        ensures { λ r. ⌜ r ≡ startCount number ⌝ }
+    {
+        if number == 4 { 1 } else { 2 }
+    }
+
+    pub fn number(self) -> u8
+        ensures { λ r. ⌜ r ≡ methodNumber self ⌝ }
+    {
+        match self {
+            Method::Brent { from: _, to: _ } => 1,
+            Method::RegulaFalsi { from: _, to: _ } => 2,
+            Method::Secant {
+                first: _,
+                second: _,
+            } => 3,
+            Method::NewtonRaphson { start: _ } => 4,
+            Method::Polynom { from: _, to: _ } => 5,
+        }
+    }
 }
 
 // Whether there are none, or too many, coefficients.

@@ -1,0 +1,2 @@
+-- what proofs cite
+pub mod GatherLaws
