@@ -1,5 +1,6 @@
 // The same calls through the proved archive and through the crate roots 0.0.8, as it is and made to tell as much, timed side by side.
-// Records likewise, beside a plain Rust writer and reader.
+// Records likewise, beside a plain Rust writer and reader. And the archive beside another one.
+mod beside;
 mod calls;
 mod plain;
 mod record_sides;
@@ -156,6 +157,7 @@ fn one_cell(words: &[String]) -> Option<()> {
         "proved" => Side::Proved,
         "rust" => Side::Rust,
         "telling" => Side::Telling,
+        "former" => Side::Former,
         _ => return None,
     };
     for _ in 0..passes.parse::<usize>().ok()? {
@@ -173,6 +175,7 @@ fn one_cell_of_records(words: &[String]) -> Option<()> {
     let side = match side.as_str() {
         "proved" => records::Side::Proved,
         "rust" => records::Side::Rust,
+        "former" => records::Side::Former,
         _ => return None,
     };
     for _ in 0..passes.parse::<usize>().ok()? {
@@ -187,16 +190,17 @@ fn main() {
     match words.first().map(String::as_str) {
         None => tables(true),
         Some("--records") => tables(false),
+        Some("--beside") => beside::tables(),
         Some("--cell") => {
             if one_cell(&words[1..]).is_none() {
-                fail("--cell search|at-once|refused METHOD COUNT proved|rust|telling PASSES");
+                fail("--cell search|at-once|refused METHOD COUNT proved|rust|telling|former PASSES");
             }
         }
         Some("--record-cell") => {
             if one_cell_of_records(&words[1..]).is_none() {
-                fail("--record-cell writing|reading COUNT proved|rust PASSES");
+                fail("--record-cell writing|reading COUNT proved|rust|former PASSES");
             }
         }
-        Some(_) => fail("bench [--records | --cell .. | --record-cell ..]"),
+        Some(_) => fail("bench [--records | --beside | --cell .. | --record-cell ..]"),
     }
 }

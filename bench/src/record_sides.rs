@@ -3,43 +3,37 @@
 use crate::plain::{self, Record, LONGEST};
 use std::mem::MaybeUninit;
 
-// As include/roots.h says.
-extern "C" {
-    fn roots_record_write(
-        coefficients: *const f64,
-        count: usize,
-        method: u64,
-        first: f64,
-        second: f64,
-        eps: f64,
-        limit: u64,
-        kind: u64,
-        numbers: *const f64,
-        tallies: *const u64,
-        bytes: *mut u8,
-        room: usize,
-        length: *mut u64,
-    ) -> u64;
-    fn roots_record_read(
-        bytes: *const u8,
-        room: usize,
-        coefficients: *mut f64,
-        points: *mut f64,
-        numbers: *mut f64,
-        tallies: *mut u64,
-        words: *mut u64,
-    ) -> u64;
+// As include/roots.h says: coefficients, count, method, both starts, eps, limit, kind, numbers, tallies, bytes, room, length.
+type Write = unsafe extern "C" fn(*const f64, usize, u64, f64, f64, f64, u64, u64, *const f64, *const u64, *mut u8, usize, *mut u64) -> u64;
+// Bytes, room, coefficients, points, numbers, tallies, words.
+type ReadBytes = unsafe extern "C" fn(*const u8, usize, *mut f64, *mut f64, *mut f64, *mut u64, *mut u64) -> u64;
+
+macro_rules! records_as {
+    ($write:ident, $read:ident) => {
+        extern "C" {
+            fn $write(
+                a: *const f64, count: usize, method: u64, first: f64, second: f64, eps: f64, limit: u64,
+                kind: u64, numbers: *const f64, tallies: *const u64, bytes: *mut u8, room: usize, length: *mut u64,
+            ) -> u64;
+            fn $read(
+                bytes: *const u8, room: usize, a: *mut f64, points: *mut f64, numbers: *mut f64, tallies: *mut u64,
+                words: *mut u64,
+            ) -> u64;
+        }
+    };
 }
+records_as!(roots_record_write, roots_record_read);
+records_as!(former_roots_record_write, former_roots_record_read);
 
 // The refusal, or 0, and the length.
 #[inline(always)]
-pub fn proved_write(record: &Record, bytes: &mut [u8]) -> (u64, usize) {
+fn written_by(write: Write, record: &Record, bytes: &mut [u8]) -> (u64, usize) {
     let mut length = MaybeUninit::<u64>::uninit();
     let a = &record.a[..record.count];
     // SAFETY: the pointers are to live memory of the lengths that the function is told, reads or writes, nothing is kept, and
     // the length is always written.
     unsafe {
-        let refused = roots_record_write(
+        let refused = write(
             a.as_ptr(),
             a.len(),
             record.method,
@@ -56,6 +50,16 @@ pub fn proved_write(record: &Record, bytes: &mut [u8]) -> (u64, usize) {
         );
         (refused, length.assume_init() as usize)
     }
+}
+
+#[inline(always)]
+pub fn proved_write(record: &Record, bytes: &mut [u8]) -> (u64, usize) {
+    written_by(roots_record_write, record, bytes)
+}
+
+#[inline(always)]
+pub fn former_write(record: &Record, bytes: &mut [u8]) -> (u64, usize) {
+    written_by(former_roots_record_write, record, bytes)
 }
 
 // What the proved reader writes.
@@ -75,12 +79,12 @@ impl Read {
 }
 
 #[inline(always)]
-pub fn proved_read(bytes: &[u8]) -> Read {
+fn read_by(read_bytes: ReadBytes, bytes: &[u8]) -> Read {
     let mut read = MaybeUninit::<Read>::uninit();
     let at = read.as_mut_ptr();
     // SAFETY: the pointers are to live memory of the lengths that the function is told or writes, nothing is kept, and all is written.
     unsafe {
-        (*at).refused = roots_record_read(
+        (*at).refused = read_bytes(
             bytes.as_ptr(),
             bytes.len(),
             (*at).a.as_mut_ptr(),
@@ -91,6 +95,16 @@ pub fn proved_read(bytes: &[u8]) -> Read {
         );
         read.assume_init()
     }
+}
+
+#[inline(always)]
+pub fn proved_read(bytes: &[u8]) -> Read {
+    read_by(roots_record_read, bytes)
+}
+
+#[inline(always)]
+pub fn former_read(bytes: &[u8]) -> Read {
+    read_by(former_roots_record_read, bytes)
 }
 
 // Both readers must give the same record, bit for bit, and the same length; or both must refuse, the proved one with all zero.
@@ -106,6 +120,16 @@ fn reads_the_same(bytes: &[u8]) -> bool {
         && one.points.map(f64::to_bits) == [other.first, other.second, other.eps].map(f64::to_bits)
         && one.numbers.map(f64::to_bits) == other.numbers.map(f64::to_bits)
         && one.tallies == other.tallies
+}
+
+// Both archives must read all of it alike, and write the same bytes.
+pub fn former_agrees(record: &Record, bytes: &[u8]) -> bool {
+    let all = |read: Read| {
+        let doubles = (read.a.map(f64::to_bits), read.points.map(f64::to_bits), read.numbers.map(f64::to_bits));
+        (read.refused, doubles, read.tallies, read.words)
+    };
+    let (mut one, mut other) = ([0xee; LONGEST], [0xee; LONGEST]);
+    proved_write(record, &mut one) == former_write(record, &mut other) && one == other && all(proved_read(bytes)) == all(former_read(bytes))
 }
 
 // Both writers must leave the same bytes of the whole buffer, and give the same length or refusal.

@@ -3,7 +3,7 @@
 use crate::calls::{calls_of, Call, Method, Row, COUNTS, METHODS};
 use crate::fail;
 use crate::plain::{self, Record, LONGEST};
-use crate::record_sides::{agree, proved_read, proved_write};
+use crate::record_sides::{agree, former_agrees, former_read, former_write, proved_read, proved_write, Read};
 use crate::sides::proved;
 use crate::timing::{batch, passes_of, BATCHES};
 
@@ -28,6 +28,8 @@ impl Work {
 pub enum Side {
     Proved,
     Rust,
+    // Another archive, under other names: see build.rs.
+    Former,
 }
 
 pub const SIDES: [Side; 2] = [Side::Proved, Side::Rust];
@@ -80,13 +82,23 @@ fn number_of_read(length: usize, root: f64, steps: u64) -> u64 {
     root.to_bits().wrapping_add(steps).wrapping_add(length as u64)
 }
 
-#[inline(never)]
-fn proved_writes(records: &[Record]) -> u64 {
+#[inline(always)]
+fn writes_by(write: impl Fn(&Record, &mut [u8]) -> (u64, usize), records: &[Record]) -> u64 {
     let mut bytes = [0; LONGEST];
     records.iter().fold(0, |sum, record| {
-        let (_, length) = proved_write(record, &mut bytes);
+        let (_, length) = write(record, &mut bytes);
         sum.wrapping_add(number_of_written(&bytes, length))
     })
+}
+
+#[inline(never)]
+fn proved_writes(records: &[Record]) -> u64 {
+    writes_by(proved_write, records)
+}
+
+#[inline(never)]
+fn former_writes(records: &[Record]) -> u64 {
+    writes_by(former_write, records)
 }
 
 #[inline(never)]
@@ -99,17 +111,27 @@ fn rust_writes(records: &[Record]) -> u64 {
 }
 
 // The records stand one behind the other, as in a file. What is left behind the last one, nothing, is refused.
-#[inline(never)]
-fn proved_reads(mut file: &[u8]) -> u64 {
+#[inline(always)]
+fn reads_by(read_bytes: impl Fn(&[u8]) -> Read, mut file: &[u8]) -> u64 {
     let mut sum = 0;
     loop {
-        let read = proved_read(file);
+        let read = read_bytes(file);
         if read.refused != 0 {
             return sum;
         }
         sum = number_of_read(read.length(), read.numbers[0], read.tallies[0]).wrapping_add(sum);
         file = &file[read.length()..];
     }
+}
+
+#[inline(never)]
+fn proved_reads(file: &[u8]) -> u64 {
+    reads_by(proved_read, file)
+}
+
+#[inline(never)]
+fn former_reads(file: &[u8]) -> u64 {
+    reads_by(former_read, file)
 }
 
 #[inline(never)]
@@ -158,12 +180,19 @@ impl Drawn {
         }
     }
 
+    // Whether the other archive writes and reads each record as this one does.
+    pub fn former_agrees(&self) -> bool {
+        self.each().all(|(record, bytes)| former_agrees(record, bytes))
+    }
+
     pub fn summed(&self, work: Work, side: Side) -> u64 {
         match (work, side) {
             (Work::Writing, Side::Proved) => proved_writes(&self.records),
             (Work::Writing, Side::Rust) => rust_writes(&self.records),
+            (Work::Writing, Side::Former) => former_writes(&self.records),
             (Work::Reading, Side::Proved) => proved_reads(&self.file),
             (Work::Reading, Side::Rust) => rust_reads(&self.file),
+            (Work::Reading, Side::Former) => former_reads(&self.file),
         }
     }
 
@@ -172,7 +201,7 @@ impl Drawn {
     }
 
     // What each side must sum to.
-    fn expected(&self, work: Work) -> u64 {
+    pub fn expected(&self, work: Work) -> u64 {
         self.each().fold(0, |sum, (record, bytes)| {
             sum.wrapping_add(match work {
                 Work::Writing => number_of_written(bytes, bytes.len()),

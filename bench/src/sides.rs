@@ -1,4 +1,4 @@
-// One call on either side. Both get coefficients, starts, eps and limit at run time and return from a call that is not inlined.
+// One call on either side. Each gets coefficients, starts, eps and limit at run time and returns from a call that is not inlined.
 
 use crate::calls::{Call, Method};
 use crate::fail;
@@ -13,22 +13,25 @@ pub enum Side {
     Rust,
     // The Rust made to tell what the proved side tells.
     Telling,
+    // Another archive, under other names: see build.rs.
+    Former,
 }
 
-// As include/roots.h says.
-extern "C" {
-    fn roots_search(
-        coefficients: *const f64,
-        count: usize,
-        method: u64,
-        first: f64,
-        second: f64,
-        eps: f64,
-        limit: u64,
-        numbers: *mut f64,
-        tallies: *mut u64,
-    ) -> u64;
+// As include/roots.h says: coefficients, count, method, both starts, eps, limit, numbers, tallies.
+type Search = unsafe extern "C" fn(*const f64, usize, u64, f64, f64, f64, u64, *mut f64, *mut u64) -> u64;
+
+macro_rules! search_as {
+    ($search:ident) => {
+        extern "C" {
+            fn $search(
+                a: *const f64, count: usize, method: u64, first: f64, second: f64, eps: f64, limit: u64,
+                numbers: *mut f64, tallies: *mut u64,
+            ) -> u64;
+        }
+    };
 }
+search_as!(roots_search);
+search_as!(former_roots_search);
 
 // The buffers of a call are left as they are before it: the function writes all of them.
 pub struct Answer {
@@ -38,13 +41,13 @@ pub struct Answer {
 }
 
 #[inline(always)]
-pub fn proved(call: &Call) -> Answer {
+fn answered(search: Search, call: &Call) -> Answer {
     let mut answer = MaybeUninit::<Answer>::uninit();
     let at = answer.as_mut_ptr();
     let a = call.coefficients();
     // SAFETY: the pointers are to live memory of the lengths that the function is told or writes, nothing is kept, and all is written.
     unsafe {
-        (*at).kind = roots_search(
+        (*at).kind = search(
             a.as_ptr(),
             a.len(),
             call.method as u64,
@@ -57,6 +60,11 @@ pub fn proved(call: &Call) -> Answer {
         );
         answer.assume_init()
     }
+}
+
+#[inline(always)]
+pub fn proved(call: &Call) -> Answer {
+    answered(roots_search, call)
 }
 
 fn rule(eps: f64, limit: u64) -> SimpleConvergency<f64> {
@@ -155,9 +163,25 @@ pub fn checked(call: &Call) -> (u64, [u64; 4]) {
     (one, answer.tallies)
 }
 
+// Both archives must give the same answer, bit for bit.
+pub fn former_agrees(call: &Call) -> bool {
+    let (one, other) = (proved(call), answered(former_roots_search, call));
+    one.kind == other.kind && one.numbers.map(f64::to_bits) == other.numbers.map(f64::to_bits) && one.tallies == other.tallies
+}
+
+#[inline(always)]
+fn summed_by(search: Search, calls: &[Call]) -> u64 {
+    calls.iter().fold(0, |sum: u64, call| sum.wrapping_add(number_of_proved(&answered(search, call))))
+}
+
 #[inline(never)]
 fn summed_proved(calls: &[Call]) -> u64 {
-    calls.iter().fold(0, |sum: u64, call| sum.wrapping_add(number_of_proved(&proved(call))))
+    summed_by(roots_search, calls)
+}
+
+#[inline(never)]
+fn summed_former(calls: &[Call]) -> u64 {
+    summed_by(former_roots_search, calls)
 }
 
 #[inline(never)]
@@ -202,5 +226,6 @@ pub fn summed(side: Side, calls: &[Call]) -> u64 {
         Side::Proved => summed_proved(calls),
         Side::Rust => summed_rust(calls),
         Side::Telling => summed_telling(calls),
+        Side::Former => summed_former(calls),
     }
 }

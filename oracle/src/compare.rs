@@ -20,7 +20,7 @@ use std::process::{Command, Stdio};
 use std::time::Instant;
 use watch::{Tallies, Test};
 
-// The lists of inputs/ from which calls are made and stored, with their names; bounds.txt is only compared.
+// The lists of inputs/ from which calls are made and stored, with their names; bounds.txt and finite.txt are only compared.
 const KNOWN: [(&str, &str); 4] = [
     ("cases.txt", include_str!("../inputs/cases.txt")),
     ("readings.txt", include_str!("../inputs/readings.txt")),

@@ -307,7 +307,7 @@ fn step_with(a: &[f64], s: Brent, bisecting: bool, guess: f64, progress: Progres
     ensures { λ r. ⌜ viewed r ≡ play tallied (oracle (now (a .entry))) (stepWith s bisecting guess) progress ⌝ }
 {
     let x = used_of(bisecting, s, guess);
-    if doubles::is_finite_by_size(x) {
+    if doubles::is_finite(x) {
         pulled_in(a, s, bisecting, x, progress)
     } else {
         ended(Answer::Refused(9), progress)

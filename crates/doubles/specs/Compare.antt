@@ -39,7 +39,8 @@ or-i false b (inr t) = t
 ltb-iff : (a b u v : ℕ) → (a < b ↔ u < v) → ltb a b ≡ ltb u v
 ltb-iff a b u v h = same-test (ltb a b) (ltb u v) (λ t. lt→ltb u v (h .0 (ltb→lt a b t))) (λ t. lt→ltb a b (h .1 (ltb→lt u v t)))
 
-eqb-iff : (a b u v : ℕ) → (a ≡ b ↔ u ≡ v) → eqb a b ≡ eqb u v
+-- Two tests of equality that hold together are equal.
+pub eqb-iff : (a b u v : ℕ) → (a ≡ b ↔ u ≡ v) → eqb a b ≡ eqb u v
 eqb-iff a b u v h = same-test (eqb a b) (eqb u v) (λ t. eq→eqb (h .0 (eqb→eq a b t))) (λ t. eq→eqb (h .1 (eqb→eq u v t)))
 
 ltb-split : (i j k : ℕ) → T (ltb i k) → T (ltb i j) ⊎ T (ltb j k)

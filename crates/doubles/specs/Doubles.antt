@@ -1,14 +1,21 @@
 -- Doubles: size, signs, the order number, and a point pulled into a pair. Definitions only.
--- "A number is finite unless its eleven exponent bits are all ones": `finite`, of lib.Ieee.Scale; `finite-exponent` of Number says that it is this.
 use mathlib.Core.Bool.{Bool, true, cond, _&&_}
-use Prim.Native.Nat.{ℕ, _+_, _%_, _^_}
-use lib.Dec.{leb, ltb}
+use Prim.Native.Nat.{ℕ, _+_, _-_, _/_, _%_, _^_}
+use lib.Dec.{leb, ltb, eqb}
 use lib.IntN.{ℤ, pos, negsuc, negℤ, natAbs}
 use lib.Ieee.{Float, binary64, nan, ofBits, toBits, isNan, lt, le, neg}
 
 -- plus zero
 abbrev pub nought : Float
 nought = ofBits binary64 0
+
+abbrev pub exponentWidth : ℕ
+exponentWidth = 11
+
+-- of a pattern: "A number is finite unless its eleven exponent bits are all ones". Which doubles are finite is `finite` of lib.Ieee.Scale;
+-- `finite-exponent` of Number says that it is this, and `finite-compared` that comparisons tell it.
+abbrev pub exponentAllOnes : ℕ → Bool
+exponentAllOnes bits = eqb (bits / 2 ^ 52 % 2 ^ exponentWidth) (2 ^ exponentWidth - 1)
 
 -- "`abs` is written out"
 unfoldable pub absolute : Float → Float

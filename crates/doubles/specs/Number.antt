@@ -8,7 +8,7 @@ use native.Mathlib.Numerals.{add-one}
 use native.Mathlib.Omega.{arith}
 use lib.Dec.{T, leb, ltb, eqb, leb→le, le→leb, nltb→le, leb·suc-suc}
 use lib.Arith.{le→nltb}
-use lib.Pow.{field, pow-add, pow-pos, pow-lt, shr-mono}
+use lib.Pow.{pow-add, pow-pos, pow-lt, shr-mono}
 use lib.IntN.{ℤ, pos, negsuc, negℤ, natAbs}
 use lib.Signed.{ltZ, leZ, _≤ℤ_, _<ℤ_, ≤ℤ-refl}
 use lib.Ieee.{Float, nan, inf, fin, binary64, up, down, size, odd, hid, ofFields, ofBits, toBits, nanBits, fits, isNan, below, lt, le, eq, neg}
@@ -17,8 +17,8 @@ use lib.Ieee.Fits.{kept-lt, and-i, and-l, and-r, down-pos}
 use lib.Ieee.Bits.{is-true, is-false, ofBits-toBits, toBits-ofBits, toBits-lt, ofBits-fits, nanBits-above}
 use lib.Ieee.Scale.{finite}
 use borrow.Author.Tests.{not-true, eqb-false, le-ltb, lt-ltb, le-leb, lt-leb, leb-true, leb-false, ne-eqb}
-use Rattle.doubles.specs.Doubles.{nought, absolute, signed63, orderOf, patternOf, ofOrder}
-use Rattle.doubles.specs.Compare.{Like, same-test, of-true, below-like, below-scaled, finite-num, lt-not-le, eq-both}
+use Rattle.doubles.specs.Doubles.{nought, exponentWidth, exponentAllOnes, signed63, orderOf, patternOf, ofOrder}
+use Rattle.doubles.specs.Compare.{Like, same-test, of-true, eqb-iff, below-like, below-scaled, finite-num, lt-not-le, eq-both}
 
 -- ---- finite, by the exponent's bits
 
@@ -37,13 +37,19 @@ unfolding ofFields
 by-fields s zero t = odd-finite 53 s t 0 1074
 by-fields s (suc x) t = by-tests (eqb (suc x) 2047) (eqb t 0) s (odd 53 s (hid binary64 + t) x 1074) (odd-finite 53 s (hid binary64 + t) x 1074)
 
-of-pattern : (b : ℕ) → finite (ofBits binary64 b) ≡ not (eqb (b / 2 ^ 52 % 2048) 2047)
+of-pattern : (b : ℕ) → finite (ofBits binary64 b) ≡ not (eqb (b % 2 ^ 63 / 2 ^ 52) 2047)
 unfolding ofBits
-of-pattern b = by-fields (leb (2 ^ 63) b) (b % 2 ^ 63 / 2 ^ 52) (b % 2 ^ 52) ∙ ap (λ (n : ℕ). not (eqb n 2047)) (field b 11 52)
+of-pattern b = by-fields (leb (2 ^ 63) b) (b % 2 ^ 63 / 2 ^ 52) (b % 2 ^ 52)
 
 -- A double is finite unless its eleven exponent bits are all ones.
-pub finite-exponent : (x : Float) → T (fits binary64 x) → finite x ≡ not (eqb (toBits binary64 x / 2 ^ 52 % 2048) 2047)
-finite-exponent x f = ap finite (sym (ofBits-toBits binary64 x f)) ∙ of-pattern (toBits binary64 x)
+pub finite-exponent : (x : Float) → T (fits binary64 x) → finite x ≡ not (exponentAllOnes (toBits binary64 x))
+finite-exponent x f = ap finite (sym (ofBits-toBits binary64 x f)) ∙ of-pattern bits ∙ ap not exponent
+  where
+    bits : ℕ
+    bits = toBits binary64 x
+
+    exponent : eqb (bits % 2 ^ 63 / 2 ^ 52) 2047 ≡ exponentAllOnes bits
+    exponent = eqb-iff (bits % 2 ^ 63 / 2 ^ 52) 2047 (bits / 2 ^ 52 % 2 ^ exponentWidth) (2 ^ exponentWidth - 1) (λ h. omega arith, λ h. omega arith)
 
 -- a double that is finite
 pub record Double (x : Float) : Type 0 where
@@ -55,7 +61,10 @@ abbrev pub bound : ℕ
 bound = 0x7ff0_0000_0000_0000
 
 bits-low : (x : Float) → Double x → toBits binary64 x % 2 ^ 63 < bound
-bits-low x d = omega (arith, eqb-false (toBits binary64 x / 2 ^ 52 % 2048) 2047 (not-true (eqb (toBits binary64 x / 2 ^ 52 % 2048) 2047) (sym (finite-exponent x (d .is-held)) ∙ is-true (finite x) (d .is-finite))))
+bits-low x d =
+    let b = toBits binary64 x in
+    let not-ones : not (eqb (b % 2 ^ 63 / 2 ^ 52) 2047) ≡ true = sym (of-pattern b) ∙ ap finite (ofBits-toBits binary64 x (d .is-held)) ∙ is-true (finite x) (d .is-finite) in
+    omega (arith, eqb-false (b % 2 ^ 63 / 2 ^ 52) 2047 (not-true (eqb (b % 2 ^ 63 / 2 ^ 52) 2047) not-ones))
 
 -- ---- the pattern of m * 2 ^ e
 
@@ -265,7 +274,7 @@ signed-pattern (pos n) l = ap signed63 (sym (zero-add n)) ∙ signed-tagged fals
 signed-pattern (negsuc n) l = rw add-one (signed-tagged true (suc n) (omega arith))
 
 finite-low : (b : ℕ) → b % 2 ^ 63 < bound → T (finite (ofBits binary64 b))
-finite-low b l = rw (of-pattern b, ne-eqb (b / 2 ^ 52 % 2048) 2047 (omega arith)) tt
+finite-low b l = rw (of-pattern b, ne-eqb (b % 2 ^ 63 / 2 ^ 52) 2047 (omega arith)) tt
 
 -- The numbers of a size below 0x7ff0_0000_0000_0000 have finite doubles.
 pub ofOrder-double : (k : ℤ) → natAbs k < bound → Double (ofOrder k)
@@ -332,18 +341,3 @@ finite-compared nan p = refl
 finite-compared (inf true) p = refl
 finite-compared (inf false) p = refl
 finite-compared (fin s m e) p = sym (finite-ends (fin s m e) (record { is-finite = tt; is-held = p }))
-
--- A double is finite just when its size is at most the largest.
-pub finite-by-size : (x : Float) → T (fits binary64 x) → finite x ≡ le (absolute x) largest
-unfolding absolute le ofBits ofFields odd neg
-finite-by-size nan p = refl
-finite-by-size (inf true) p = refl
-finite-by-size (inf false) p = refl
-finite-by-size (fin s m e) p = go (lt (fin s m e) nought)
-  where
-    at-most : (t : Bool) → true ≡ le (fin t m e) largest
-    at-most t = sym (is-true (le (fin t m e) largest) (and-r (le (neg largest) (fin t m e)) (le (fin t m e) largest) (of-true _ (finite-ends (fin t m e) (record { is-finite = tt; is-held = flip s t m e p })))))
-
-    go : (b : Bool) → true ≡ le (cond b (neg (fin s m e)) (fin s m e)) largest
-    go true = at-most (not s)
-    go false = at-most s

@@ -25,14 +25,14 @@ pub fn pattern(x: f64) -> u64
     f64::to_bits(x)
 }
 
-// Whether x is a number and its eleven exponent bits are not all ones.
+// The largest finite double.
+const LARGEST: f64 = 1.7976931348623157e308;
+
+// Whether x is finite, by "comparisons against the largest finite double". With a NaN both are false.
 pub fn is_finite(x: f64) -> bool
     ensures { λ r. ⌜ r ≡ finite x ⌝ }
 {
-    if x != x {
-        return false;
-    }
-    f64::to_bits(x) >> 52 & 2047 != 2047
+    (-LARGEST <= x) & (x <= LARGEST)
 }
 
 // The size of x.
@@ -40,13 +40,6 @@ pub fn abs(x: f64) -> f64
     ensures { λ r. ⌜ r ≡ absolute x ⌝ }
 {
     if x < 0.0 { -x } else { x }
-}
-
-// Whether x is finite, told by its size and not by its bits: faster where the size is asked for too.
-pub fn is_finite_by_size(x: f64) -> bool
-    ensures { λ r. ⌜ r ≡ finite x ⌝ }
-{
-    abs(x) <= 1.7976931348623157e308
 }
 
 pub fn is_above(x: f64) -> bool

@@ -103,7 +103,7 @@ fn onward(stop: StopRule, v: ValueAndDerivative, progress: Progress) -> Turn
     ensures { λ r. ⌜ ((cs : List Float) → viewed r ≡ play tallied (oracle cs) (onward stop v) progress) ⌝ }
 {
     let x1 = newton_point(v);
-    if doubles::is_finite_by_size(x1) {
+    if doubles::is_finite(x1) {
         landed(stop, v.value.x, x1, progress)
     } else {
         ended(Answer::Refused(9), progress)
@@ -146,7 +146,7 @@ fn nudge(x: f64, progress: Progress) -> Turn
     ensures { λ r. ⌜ ((cs : List Float) → viewed r ≡ play tallied (oracle cs) (nudge x) progress) ⌝ }
 {
     let y = x + 1.0;
-    if doubles::is_finite_by_size(y) {
+    if doubles::is_finite(y) {
         goes_on(Spot { x: y, nudged: true }, progress.stepped())
     } else {
         ended(Answer::Refused(9), progress)

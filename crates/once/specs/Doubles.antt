@@ -3,7 +3,6 @@ use Rattle.doubles.proofs.from_pattern.Reads as from-pattern-reads
 use Rattle.doubles.proofs.is_finite.Reads as is-finite-reads
 use Rattle.doubles.proofs.pattern.Reads as pattern-reads
 use Rattle.doubles.proofs.abs.Reads as abs-reads
-use Rattle.doubles.proofs.is_finite_by_size.Reads as is-finite-by-size-reads
 use Rattle.doubles.proofs.is_above.Reads as is-above-reads
 use Rattle.doubles.proofs.is_below.Reads as is-below-reads
 use Rattle.doubles.proofs.same_sign.Reads as same-sign-reads
@@ -25,9 +24,6 @@ is-finite-once = fixed _ _
 
 pub abs-once : One abs-reads.Learnt
 abs-once = fixed _ _
-
-pub is-finite-by-size-once : One is-finite-by-size-reads.Learnt
-is-finite-by-size-once = fixed _ _
 
 pub is-above-once : One is-above-reads.Learnt
 is-above-once = fixed _ _

@@ -132,7 +132,7 @@ pub fn value_and_derivative(a: &[f64], x: f64) -> ValueAndDerivative
 fn sample_if_finite(x: f64, y: f64) -> Evaluated
     ensures { λ r. ⌜ r ≡ sampleIfFinite x y ⌝ }
 {
-    if doubles::is_finite_by_size(y) {
+    if doubles::is_finite(y) {
         Evaluated::At(Sample { x, y })
     } else {
         Evaluated::NotFinite
@@ -150,8 +150,8 @@ pub fn evaluate(a: &[f64], x: f64) -> Evaluated
 fn both_if_finite(v: ValueAndDerivative) -> EvaluatedBoth
     ensures { λ r. ⌜ r ≡ bothIfFinite v ⌝ }
 {
-    if doubles::is_finite_by_size(v.value.y) {
-        if doubles::is_finite_by_size(v.derivative) {
+    if doubles::is_finite(v.value.y) {
+        if doubles::is_finite(v.derivative) {
             EvaluatedBoth::Both(v)
         } else {
             EvaluatedBoth::NotBothFinite

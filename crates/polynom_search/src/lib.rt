@@ -185,7 +185,7 @@ fn middle_in(i: Interval, progress: Progress) -> Middle
     ensures { λ r. ⌜ r ≡ middleIn i progress ⌝ }
 {
     let x = i.middle();
-    if doubles::is_finite_by_size(x) {
+    if doubles::is_finite(x) {
         let u = i.begin.x;
         let v = i.end.x;
         Middle::In(searching::pull(u, v, x, progress))

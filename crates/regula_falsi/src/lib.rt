@@ -280,7 +280,7 @@ fn take_turn(a: &[f64], stop: StopRule, s: Illinois, p: Progress) -> Turn
     ensures { λ r. ⌜ viewed r ≡ play tallied (oracle (now (a .entry))) (turnFrom stop s) p ⌝ }
 {
     let x = candidate(s);
-    if doubles::is_finite_by_size(x) {
+    if doubles::is_finite(x) {
         pulled_in(a, stop, s, x, p)
     } else {
         ended(Answer::Refused(9), p)

@@ -93,8 +93,8 @@ fn all_finite(a: &[f64]) -> bool
 fn both_finite(p: f64, q: f64) -> bool
     ensures { λ r. ⌜ r ≡ allFinite (p ∷ q ∷ []) ⌝ }
 {
-    if doubles::is_finite_by_size(p) {
-        doubles::is_finite_by_size(q)
+    if doubles::is_finite(p) {
+        doubles::is_finite(q)
     } else {
         false
     }
@@ -108,7 +108,7 @@ fn starts_finite(method: Method) -> bool
         Method::Brent { from, to } => both_finite(from, to),
         Method::RegulaFalsi { from, to } => both_finite(from, to),
         Method::Secant { first, second } => both_finite(first, second),
-        Method::NewtonRaphson { start } => doubles::is_finite_by_size(start),
+        Method::NewtonRaphson { start } => doubles::is_finite(start),
         Method::Polynom { from, to } => both_finite(from, to),
     }
 }

@@ -158,7 +158,7 @@ fn take_turn(a: &[f64], stop: StopRule, s: Secant, progress: Progress) -> Turn
         return ended(Answer::Refused(7), progress);
     }
     let x = candidate(s);
-    if doubles::is_finite_by_size(x) {
+    if doubles::is_finite(x) {
         landed(a, stop, s, x, progress)
     } else {
         ended(Answer::Refused(9), progress)

@@ -18,7 +18,7 @@ pub enum Checked {
 fn is_bad_eps(eps: f64) -> bool
     ensures { λ r. ⌜ r ≡ badEps eps ⌝ }
 {
-    if doubles::is_finite_by_size(eps) {
+    if doubles::is_finite(eps) {
         eps < StopRule::LEAST_EPS
     } else {
         true

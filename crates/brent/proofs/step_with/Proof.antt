@@ -7,8 +7,8 @@ use Rattle.brent.proofs.step_with.Tie as tie
 used-of-requires : tie.Need-used-of-requires
 used-of-requires c κs = search needs
 
-is-finite-by-size-requires : tie.Need-is-finite-by-size-requires
-is-finite-by-size-requires c κs = search needs
+is-finite-requires : tie.Need-is-finite-requires
+is-finite-requires c κs = search needs
 
 pulled-in-requires : tie.Need-pulled-in-requires
 pulled-in-requires c κs = search needs
@@ -29,7 +29,7 @@ step-with-spec =
     tie.close
     (tie.spec
     used-of-requires
-    is-finite-by-size-requires
+    is-finite-requires
     pulled-in-requires
     ended-requires
     returns

@@ -4,8 +4,8 @@ use borrow.Author.Needs.{needs}
 use Rattle.newton_raphson.proofs.nudge.Statement.{statement}
 use Rattle.newton_raphson.proofs.nudge.Tie as tie
 
-is-finite-by-size-requires : tie.Need-is-finite-by-size-requires
-is-finite-by-size-requires c κs = search needs
+is-finite-requires : tie.Need-is-finite-requires
+is-finite-requires c κs = search needs
 
 stepped-requires : tie.Need-stepped-requires
 stepped-requires c κs = search needs
@@ -26,4 +26,4 @@ returns-2 c = λ cs. search steps
 
 pub nudge-spec : {M : Type 1} → statement M
 nudge-spec =
-    tie.close (tie.spec is-finite-by-size-requires stepped-requires goes-on-requires ended-requires returns returns-2)
+    tie.close (tie.spec is-finite-requires stepped-requires goes-on-requires ended-requires returns returns-2)

@@ -7,8 +7,8 @@ use Rattle.newton_raphson.proofs.onward.Tie as tie
 newton-point-requires : tie.Need-newton-point-requires
 newton-point-requires c κs = search needs
 
-is-finite-by-size-requires : tie.Need-is-finite-by-size-requires
-is-finite-by-size-requires c κs = search needs
+is-finite-requires : tie.Need-is-finite-requires
+is-finite-requires c κs = search needs
 
 landed-requires : tie.Need-landed-requires
 landed-requires c κs = search needs
@@ -29,7 +29,7 @@ onward-spec =
     tie.close
     (tie.spec
     newton-point-requires
-    is-finite-by-size-requires
+    is-finite-requires
     landed-requires
     ended-requires
     returns

@@ -3,11 +3,11 @@ use borrow.Author.Needs.{needs}
 use Rattle.polynom.proofs.both_if_finite.Statement.{statement}
 use Rattle.polynom.proofs.both_if_finite.Tie as tie
 
-is-finite-by-size-requires : tie.Need-is-finite-by-size-requires
-is-finite-by-size-requires c κs = search needs
+is-finite-requires : tie.Need-is-finite-requires
+is-finite-requires c κs = search needs
 
-is-finite-by-size-requires-2 : tie.Need-is-finite-by-size-requires-2
-is-finite-by-size-requires-2 c κs = search needs
+is-finite-requires-2 : tie.Need-is-finite-requires-2
+is-finite-requires-2 c κs = search needs
 
 returns : tie.Need-returns
 returns c = search choices
@@ -20,4 +20,4 @@ returns-3 c = search choices
 
 pub both-if-finite-spec : {M : Type 1} → statement M
 both-if-finite-spec =
-    tie.close (tie.spec is-finite-by-size-requires is-finite-by-size-requires-2 returns returns-2 returns-3)
+    tie.close (tie.spec is-finite-requires is-finite-requires-2 returns returns-2 returns-3)

@@ -3,8 +3,8 @@ use borrow.Author.Needs.{needs}
 use Rattle.polynom.proofs.sample_if_finite.Statement.{statement}
 use Rattle.polynom.proofs.sample_if_finite.Tie as tie
 
-is-finite-by-size-requires : tie.Need-is-finite-by-size-requires
-is-finite-by-size-requires c κs = search needs
+is-finite-requires : tie.Need-is-finite-requires
+is-finite-requires c κs = search needs
 
 returns : tie.Need-returns
 returns c = search choices
@@ -13,4 +13,4 @@ returns-2 : tie.Need-returns-2
 returns-2 c = search choices
 
 pub sample-if-finite-spec : {M : Type 1} → statement M
-sample-if-finite-spec = tie.close (tie.spec is-finite-by-size-requires returns returns-2)
+sample-if-finite-spec = tie.close (tie.spec is-finite-requires returns returns-2)

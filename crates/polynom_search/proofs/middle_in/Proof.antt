@@ -6,8 +6,8 @@ use Rattle.polynom_search.proofs.middle_in.Tie as tie
 middle-requires : tie.Need-middle-requires
 middle-requires c κs = search needs
 
-is-finite-by-size-requires : tie.Need-is-finite-by-size-requires
-is-finite-by-size-requires c κs = search needs
+is-finite-requires : tie.Need-is-finite-requires
+is-finite-requires c κs = search needs
 
 pull-requires : tie.Need-pull-requires
 pull-requires c κs = search needs
@@ -20,4 +20,4 @@ returns-2 c = search not-finite-middle
 
 pub middle-in-spec : {M : Type 1} → statement M
 middle-in-spec =
-    tie.close (tie.spec middle-requires is-finite-by-size-requires pull-requires returns returns-2)
+    tie.close (tie.spec middle-requires is-finite-requires pull-requires returns returns-2)

@@ -7,8 +7,8 @@ use Rattle.regula_falsi.proofs.take_turn.Tie as tie
 candidate-requires : tie.Need-candidate-requires
 candidate-requires c κs = search needs
 
-is-finite-by-size-requires : tie.Need-is-finite-by-size-requires
-is-finite-by-size-requires c κs = search needs
+is-finite-requires : tie.Need-is-finite-requires
+is-finite-requires c κs = search needs
 
 pulled-in-requires : tie.Need-pulled-in-requires
 pulled-in-requires c κs = search needs
@@ -29,7 +29,7 @@ take-turn-spec =
     tie.close
     (tie.spec
     candidate-requires
-    is-finite-by-size-requires
+    is-finite-requires
     pulled-in-requires
     ended-requires
     returns

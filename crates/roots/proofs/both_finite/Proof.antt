@@ -5,11 +5,11 @@ use borrow.Author.Needs.{needs}
 use Rattle.roots.proofs.both_finite.Statement.{statement}
 use Rattle.roots.proofs.both_finite.Tie as tie
 
-is-finite-by-size-requires : tie.Need-is-finite-by-size-requires
-is-finite-by-size-requires c κs = search needs
+is-finite-requires : tie.Need-is-finite-requires
+is-finite-requires c κs = search needs
 
-is-finite-by-size-requires-2 : tie.Need-is-finite-by-size-requires-2
-is-finite-by-size-requires-2 c κs = search needs
+is-finite-requires-2 : tie.Need-is-finite-requires-2
+is-finite-requires-2 c κs = search needs
 
 returns : tie.Need-returns
 unfolding allFinite
@@ -20,4 +20,4 @@ unfolding allFinite
 returns-2 c = search choices
 
 pub both-finite-spec : {M : Type 1} → statement M
-both-finite-spec = tie.close (tie.spec is-finite-by-size-requires is-finite-by-size-requires-2 returns returns-2)
+both-finite-spec = tie.close (tie.spec is-finite-requires is-finite-requires-2 returns returns-2)

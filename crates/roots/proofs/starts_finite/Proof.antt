@@ -24,8 +24,8 @@ both-finite-requires-3 c κs = search needs
 enum-known-method-4 : tie.Need-enum-known-method-4
 enum-known-method-4 c = search needs
 
-is-finite-by-size-requires : tie.Need-is-finite-by-size-requires
-is-finite-by-size-requires c κs = search needs
+is-finite-requires : tie.Need-is-finite-requires
+is-finite-requires c κs = search needs
 
 enum-known-method-5 : tie.Need-enum-known-method-5
 enum-known-method-5 c = search needs
@@ -59,7 +59,7 @@ starts-finite-spec =
     enum-known-method-3
     both-finite-requires-3
     enum-known-method-4
-    is-finite-by-size-requires
+    is-finite-requires
     enum-known-method-5
     both-finite-requires-4
     returns

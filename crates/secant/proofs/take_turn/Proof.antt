@@ -17,8 +17,8 @@ returns c = search steps
 candidate-requires : tie.Need-candidate-requires
 candidate-requires c κs = search needs
 
-is-finite-by-size-requires : tie.Need-is-finite-by-size-requires
-is-finite-by-size-requires c κs = search needs
+is-finite-requires : tie.Need-is-finite-requires
+is-finite-requires c κs = search needs
 
 landed-requires : tie.Need-landed-requires
 landed-requires c κs = search needs
@@ -42,7 +42,7 @@ take-turn-spec =
     ended-requires
     returns
     candidate-requires
-    is-finite-by-size-requires
+    is-finite-requires
     landed-requires
     ended-requires-2
     returns-2

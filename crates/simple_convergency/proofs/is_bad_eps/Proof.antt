@@ -4,8 +4,8 @@ use borrow.Author.Needs.{needs}
 use Rattle.simple_convergency.proofs.is_bad_eps.Statement.{statement}
 use Rattle.simple_convergency.proofs.is_bad_eps.Tie as tie
 
-is-finite-by-size-requires : tie.Need-is-finite-by-size-requires
-is-finite-by-size-requires c κs = search needs
+is-finite-requires : tie.Need-is-finite-requires
+is-finite-requires c κs = search needs
 
 returns : tie.Need-returns
 unfolding badEps
@@ -16,4 +16,4 @@ unfolding badEps
 returns-2 c = search choices
 
 pub is-bad-eps-spec : {M : Type 1} → statement M
-is-bad-eps-spec = tie.close (tie.spec is-finite-by-size-requires returns returns-2)
+is-bad-eps-spec = tie.close (tie.spec is-finite-requires returns returns-2)
