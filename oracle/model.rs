@@ -1,8 +1,8 @@
-// A second route to document 01: the five methods written from its rules alone.
+// A second route to document 01 with document 02's two tolerances: the five methods written from their rules alone.
 // Nothing of the published crate is used here; `compare` holds the two side by side.
 
 // The stop rule's constants. 2^-300 has the biased exponent 1023 - 300.
-const LEAST_EPS: f64 = f64::from_bits((1023 - 300) << 52);
+const LEAST_TOLERANCE: f64 = f64::from_bits((1023 - 300) << 52);
 const GREATEST_LIMIT: u64 = 400;
 const MOST_COEFFICIENTS: usize = 16;
 
@@ -16,17 +16,19 @@ struct Sample {
     y: f64,
 }
 
+// Values are measured by the first tolerance, points by the second.
 struct StopRule {
-    eps: f64,
+    value_tolerance: f64,
+    point_tolerance: f64,
     limit: u64,
 }
 
 impl StopRule {
     fn found(&self, y: f64) -> bool {
-        y.abs() < self.eps
+        y.abs() < self.value_tolerance
     }
     fn converged(&self, p: f64, q: f64) -> bool {
-        (p - q).abs() < self.eps
+        (p - q).abs() < self.point_tolerance
     }
     fn reached(&self, steps: u64) -> bool {
         steps >= self.limit
@@ -309,7 +311,7 @@ fn secant(run: &mut Run, first: f64, second: f64, stop: &StopRule) -> Answer {
         return ByValue { root: s2.x, value: s2.y };
     }
     loop {
-        if (s1.y - s2.y).abs() < stop.eps {
+        if (s1.y - s2.y).abs() < stop.value_tolerance {
             return Refused(ZERO_DERIVATIVE);
         }
         let x = s2.x - s2.y * (s2.x - s1.x) / (s2.y - s1.y);
@@ -339,7 +341,7 @@ fn newton(run: &mut Run, start: f64, stop: &StopRule) -> Answer {
         if stop.found(s.y) {
             return ByValue { root: x, value: s.y };
         }
-        if slope.abs() < stop.eps {
+        if slope.abs() < stop.value_tolerance {
             if run.steps != 0 {
                 return Refused(ZERO_DERIVATIVE);
             }
@@ -432,8 +434,13 @@ struct Call {
     method: u8,
     coefficients: Vec<f64>,
     starts: Vec<f64>,
-    eps: f64,
+    value_tolerance: f64,
+    point_tolerance: f64,
     limit: u64,
+}
+
+fn bad_tolerance(x: f64) -> bool {
+    !finite(x) || x < LEAST_TOLERANCE
 }
 
 // Refusals 1 to 5, in this order, before any evaluation.
@@ -448,7 +455,7 @@ fn refused_at_once(call: &Call) -> Option<u8> {
     if !call.starts.iter().all(|&x| finite(x)) {
         return Some(3);
     }
-    if !finite(call.eps) || call.eps < LEAST_EPS {
+    if bad_tolerance(call.value_tolerance) || bad_tolerance(call.point_tolerance) {
         return Some(4);
     }
     if call.limit > GREATEST_LIMIT {
@@ -459,7 +466,8 @@ fn refused_at_once(call: &Call) -> Option<u8> {
 
 fn search<'a>(call: &'a Call) -> (Answer, Run<'a>) {
     let mut run = Run { a: &call.coefficients, steps: 0, values: 0, derivatives: 0, mark: 0 };
-    let stop = StopRule { eps: call.eps, limit: call.limit };
+    let Call { value_tolerance, point_tolerance, limit, .. } = *call;
+    let stop = StopRule { value_tolerance, point_tolerance, limit };
     let starts = &call.starts;
     let answer = match refused_at_once(call) {
         Some(refusal) => Refused(refusal),
@@ -514,12 +522,13 @@ fn read(line: &str) -> Result<Call, &'static str> {
     for _ in 0..(if method == 4 { 1 } else { 2 }) {
         starts.push(double(fields.next(), "start")?);
     }
-    let eps = double(fields.next(), "eps")?;
+    let value_tolerance = double(fields.next(), "value tolerance")?;
+    let point_tolerance = double(fields.next(), "point tolerance")?;
     let limit = decimal(fields.next(), "limit")?;
     if fields.next().is_some() {
         return Err("length");
     }
-    Ok(Call { method, coefficients, starts, eps, limit })
+    Ok(Call { method, coefficients, starts, value_tolerance, point_tolerance, limit })
 }
 
 // One line in, one line out: KIND NUMBERS.. STEPS VALUES DERIVATIVES MARK, or error REASON.

@@ -2,13 +2,15 @@
 // Reading takes the bytes apart into a row of whole numbers and then says what the row means.
 // Whether they were written as they must be is asked last, by writing the row once more.
 
-// A call and its answer. Doubles stand here as their 64 bits.
+// A call and its answer, and the kind of record that they stand in. Doubles stand here as their 64 bits.
 #[derive(Clone, PartialEq)]
 pub struct Record {
+    pub record_kind: u64,
     pub method: u64,
     pub coefficients: Vec<u64>,
     pub starts: Vec<u64>,
-    pub eps: u64,
+    pub value_tolerance: u64,
+    pub point_tolerance: u64,
     pub limit: u64,
     pub kind: u64,
     pub numbers: Vec<u64>,
@@ -48,12 +50,18 @@ pub fn groups(number: u64) -> impl Iterator<Item = u8> {
     (0..=last).map(move |i| (number >> (7 * i) & 127) as u8 + if i < last { 128 } else { 0 })
 }
 
-// The record's numbers in their order.
+// The record's numbers in their order. The old kind, 1, has no head and one tolerance, its eps.
 pub fn row(record: &Record) -> Vec<u64> {
-    let mut row = vec![record.method, record.coefficients.len() as u64];
+    let old = record.record_kind == 1;
+    let mut row = if old { vec![] } else { vec![0, record.record_kind] };
+    row.extend([record.method, record.coefficients.len() as u64]);
     row.extend(&record.coefficients);
     row.extend(&record.starts);
-    row.extend([record.eps, record.limit, record.kind]);
+    row.push(record.value_tolerance);
+    if !old {
+        row.push(record.point_tolerance);
+    }
+    row.extend([record.limit, record.kind]);
     row.extend(&record.numbers);
     row.extend([record.steps, record.values, record.derivatives, record.mark]);
     row
@@ -69,21 +77,34 @@ fn finite(bits: &u64) -> bool {
 
 // 2^-300, which these make without rounding.
 const SIXTY: f64 = (1u64 << 60) as f64;
-const LEAST_EPS: f64 = 1.0 / (SIXTY * SIXTY * SIXTY * SIXTY * SIXTY);
+const LEAST_TOLERANCE: f64 = 1.0 / (SIXTY * SIXTY * SIXTY * SIXTY * SIXTY);
+
+fn tolerance_passes(bits: u64) -> bool {
+    finite(&bits) && f64::from_bits(bits) >= LEAST_TOLERANCE
+}
 
 // Whether 1 to 5 leave the call alone.
 fn call_passes(record: &Record) -> bool {
     (1..=16).contains(&record.coefficients.len())
         && record.coefficients.iter().all(finite)
         && record.starts.iter().all(finite)
-        && finite(&record.eps)
-        && f64::from_bits(record.eps) >= LEAST_EPS
+        && tolerance_passes(record.value_tolerance)
+        && tolerance_passes(record.point_tolerance)
         && record.limit <= 400
 }
 
-// Whether a call and its answer have a record. How plausible the answer is does not matter.
+// Whether there is such a kind of record, and it can hold both tolerances.
+fn kind_passes(record: &Record) -> bool {
+    match record.record_kind {
+        1 => record.value_tolerance == record.point_tolerance,
+        other => other == 2,
+    }
+}
+
+// Whether a call and its answer have a record of that kind. How plausible the answer is does not matter.
 pub fn allowed(record: &Record) -> bool {
-    (1..=5).contains(&record.method)
+    kind_passes(record)
+        && (1..=5).contains(&record.method)
         && record.starts.len() as u64 == starts(record.method)
         && call_passes(record)
         && KINDS.contains(&record.kind)
@@ -108,12 +129,21 @@ fn take_one(row: &mut impl Iterator<Item = u128>) -> Option<u64> {
     take(row, 1).map(|one| one[0])
 }
 
+// The record's kind and its method: a row that begins with 0 says its kind next, and any other is of kind 1.
+fn head(row: &mut impl Iterator<Item = u128>) -> Option<(u64, u64)> {
+    match take_one(row)? {
+        0 => Some((take_one(row).filter(|kind| *kind == 2)?, take_one(row)?)),
+        method => Some((1, method)),
+    }
+}
+
 fn understood(row: &mut impl Iterator<Item = u128>) -> Option<Record> {
-    let method = take_one(row)?;
+    let (record_kind, method) = head(row)?;
     let count = take_one(row)?;
     let coefficients = take(row, count)?;
     let starts = take(row, starts(method))?;
-    let eps = take_one(row)?;
+    let value_tolerance = take_one(row)?;
+    let point_tolerance = if record_kind == 1 { value_tolerance } else { take_one(row)? };
     let limit = take_one(row)?;
     let kind = take_one(row)?;
     let numbers = take(row, numbers(kind))?;
@@ -121,7 +151,21 @@ fn understood(row: &mut impl Iterator<Item = u128>) -> Option<Record> {
     let values = take_one(row)?;
     let derivatives = take_one(row)?;
     let mark = take_one(row)?;
-    Some(Record { method, coefficients, starts, eps, limit, kind, numbers, steps, values, derivatives, mark })
+    Some(Record {
+        record_kind,
+        method,
+        coefficients,
+        starts,
+        value_tolerance,
+        point_tolerance,
+        limit,
+        kind,
+        numbers,
+        steps,
+        values,
+        derivatives,
+        mark,
+    })
 }
 
 // The record at the start of the bytes and its length; nothing stands for refusal 11.

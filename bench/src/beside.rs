@@ -3,7 +3,7 @@
 use crate::calls::{calls_of, Method, Row, COUNTS, METHODS, ROWS};
 use crate::fail;
 use crate::records::{Drawn, Side as RecordSide, Work, WORKS};
-use crate::sides::{checked, former_agrees, summed, Side};
+use crate::sides::{checked, former_agrees, former_is_alike, summed, Side};
 use crate::timing::{batch, passes_of, BATCHES, BATCH_NANOSECONDS, ROUNDS};
 use std::rc::Rc;
 
@@ -86,13 +86,18 @@ fn lines_of_records() -> Vec<Line> {
 
 pub fn tables() {
     let mut tables: Vec<(&str, Vec<Line>)> = ROWS.map(|row| (row.words(), lines_of(row))).into();
-    tables.push(("Records of searches that found a root by its value", lines_of_records()));
+    if former_is_alike() {
+        tables.push(("Records of searches that found a root by its value", lines_of_records()));
+    }
     for _ in 0..ROUNDS {
         let lines = tables.iter_mut().flat_map(|(_, lines)| lines);
         lines.flat_map(|line| line.cells.iter_mut().flatten()).for_each(Cell::round);
     }
     println!("ns by the other archive, ns by this one, in brackets this one's divided by the other's;");
     println!("the least of {} batches of {} ms of thread time, in {ROUNDS} rounds", ROUNDS * BATCHES, BATCH_NANOSECONDS / 1e6);
+    if !former_is_alike() {
+        println!("the other archive has version 2 of the interface: its eps is both tolerances, and its records are left out");
+    }
     for (words, lines) in &tables {
         println!("\n## {words}\n\n| | 1 | 2 | 4 | 8 | 16 |\n|---|--:|--:|--:|--:|--:|");
         for Line { name, cells } in lines {

@@ -4,6 +4,7 @@ use crate::sides::proved;
 
 pub const COUNTS: [usize; 5] = [1, 2, 4, 8, 16];
 pub const CALLS: usize = 500;
+// Both tolerances: the crate's SimpleConvergency has one number for them.
 pub const EPS: f64 = 1e-12;
 pub const LIMIT: u64 = 100;
 
@@ -63,7 +64,8 @@ pub struct Call {
     count: usize,
     pub first: f64,
     pub second: f64,
-    pub eps: f64,
+    pub value_tolerance: f64,
+    pub point_tolerance: f64,
     pub limit: u64,
 }
 
@@ -148,7 +150,7 @@ fn drawn(dice: &mut Dice, row: Row, method: Method, count: usize) -> Option<Call
     }
     let mut a = [0.0; 16];
     a[..count].copy_from_slice(&coefficients);
-    let mut call = Call { method, a, count, first, second, eps: EPS, limit: LIMIT };
+    let mut call = Call { method, a, count, first, second, value_tolerance: EPS, point_tolerance: EPS, limit: LIMIT };
     let answer = proved(&call);
     if answer.tallies[3] != 0 {
         return None;

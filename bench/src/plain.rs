@@ -1,19 +1,22 @@
 // The writer and the reader of records as a Rust program would have them: safe code with every check that the layout asks for.
 
-pub const LONGEST: usize = 256;
-const LEAST_EPS: f64 = 4.909093465297727e-91;
+pub const LONGEST: usize = 268;
+pub const LEAST_TOLERANCE: f64 = 4.909093465297727e-91;
+pub const NEWEST: u64 = 2;
 const MOST_COEFFICIENTS: usize = 16;
 const NEWTON: u64 = 4;
 
-// A call and its answer, as include/roots.h has them.
+// A call and its answer, as include/roots.h has them; the kind is the answer's.
 #[derive(Clone, Debug, Default)]
 pub struct Record {
+    pub record_kind: u64,
     pub method: u64,
     pub count: usize,
     pub a: [f64; MOST_COEFFICIENTS],
     pub first: f64,
     pub second: f64,
-    pub eps: f64,
+    pub value_tolerance: f64,
+    pub point_tolerance: f64,
     pub limit: u64,
     pub kind: u64,
     pub numbers: [f64; 3],
@@ -40,17 +43,30 @@ fn finite(numbers: &[f64]) -> bool {
     numbers.iter().all(|x| x.is_finite())
 }
 
+fn is_tolerance(x: f64) -> bool {
+    x.is_finite() && x >= LEAST_TOLERANCE
+}
+
+// Kind 1 has one tolerance for both.
+fn kind_fits(record: &Record) -> bool {
+    match record.record_kind {
+        1 => record.value_tolerance.to_bits() == record.point_tolerance.to_bits(),
+        kind => kind == NEWEST,
+    }
+}
+
 // The coefficients and the answer's numbers, where call and answer have a record.
 fn parts(record: &Record) -> Option<(&[f64], &[f64])> {
     let a = record.a.get(..record.count)?;
     let numbers = &record.numbers[..numbers_of(record.kind)?];
-    let fits = (1..=5).contains(&record.method)
+    let fits = kind_fits(record)
+        && (1..=5).contains(&record.method)
         && !a.is_empty()
         && finite(a)
         && record.first.is_finite()
         && (record.method == NEWTON || record.second.is_finite())
-        && record.eps.is_finite()
-        && record.eps >= LEAST_EPS
+        && is_tolerance(record.value_tolerance)
+        && is_tolerance(record.point_tolerance)
         && record.limit <= 400
         && finite(numbers)
         && record.tallies[3] <= 2;
@@ -82,6 +98,10 @@ impl Row<'_> {
 
 fn put(record: &Record, a: &[f64], numbers: &[f64], bytes: &mut [u8; LONGEST]) -> usize {
     let mut row = Row { bytes, length: 0 };
+    if record.record_kind == NEWEST {
+        row.number(0);
+        row.number(NEWEST);
+    }
     row.number(record.method);
     row.number(a.len() as u64);
     a.iter().for_each(|x| row.double(*x));
@@ -89,7 +109,10 @@ fn put(record: &Record, a: &[f64], numbers: &[f64], bytes: &mut [u8; LONGEST]) -
     if record.method != NEWTON {
         row.double(record.second);
     }
-    row.double(record.eps);
+    row.double(record.value_tolerance);
+    if record.record_kind == NEWEST {
+        row.double(record.point_tolerance);
+    }
     row.number(record.limit);
     row.number(record.kind);
     numbers.iter().for_each(|x| row.double(*x));
@@ -134,10 +157,25 @@ impl Reader<'_> {
     fn double(&mut self) -> Option<f64> {
         Some(f64::from_bits(self.number()?)).filter(|x| x.is_finite())
     }
+    fn tolerance(&mut self) -> Option<f64> {
+        self.double().filter(|x| *x >= LEAST_TOLERANCE)
+    }
+}
+
+// A record of kind 1 begins with its method, which is not 0; a later one with 0 and its kind.
+fn read_kind_and_method(reader: &mut Reader, record: &mut Record) -> Option<()> {
+    let mut first = reader.number()?;
+    record.record_kind = 1;
+    if first == 0 {
+        record.record_kind = reader.number().filter(|kind| *kind == NEWEST)?;
+        first = reader.number()?;
+    }
+    record.method = Some(first).filter(|method| (1..=5).contains(method))?;
+    Some(())
 }
 
 fn read_call(reader: &mut Reader, record: &mut Record) -> Option<()> {
-    record.method = reader.number().filter(|method| (1..=5).contains(method))?;
+    read_kind_and_method(reader, record)?;
     record.count = reader.number().filter(|count| (1..=MOST_COEFFICIENTS as u64).contains(count))? as usize;
     for a in &mut record.a[..record.count] {
         *a = reader.double()?;
@@ -146,7 +184,8 @@ fn read_call(reader: &mut Reader, record: &mut Record) -> Option<()> {
     if record.method != NEWTON {
         record.second = reader.double()?;
     }
-    record.eps = reader.double().filter(|eps| *eps >= LEAST_EPS)?;
+    record.value_tolerance = reader.tolerance()?;
+    record.point_tolerance = if record.record_kind == 1 { record.value_tolerance } else { reader.tolerance()? };
     record.limit = reader.number().filter(|limit| *limit <= 400)?;
     Some(())
 }

@@ -3,8 +3,9 @@
 use crate::plain::{self, Record, LONGEST};
 use std::mem::MaybeUninit;
 
-// As include/roots.h says: coefficients, count, method, both starts, eps, limit, kind, numbers, tallies, bytes, room, length.
-type Write = unsafe extern "C" fn(*const f64, usize, u64, f64, f64, f64, u64, u64, *const f64, *const u64, *mut u8, usize, *mut u64) -> u64;
+// As include/roots.h says: record's kind, coefficients, count, method, both starts, both tolerances, limit, kind, numbers, tallies, bytes, room, length.
+type Write =
+    unsafe extern "C" fn(u64, *const f64, usize, u64, f64, f64, f64, f64, u64, u64, *const f64, *const u64, *mut u8, usize, *mut u64) -> u64;
 // Bytes, room, coefficients, points, numbers, tallies, words.
 type ReadBytes = unsafe extern "C" fn(*const u8, usize, *mut f64, *mut f64, *mut f64, *mut u64, *mut u64) -> u64;
 
@@ -12,8 +13,9 @@ macro_rules! records_as {
     ($write:ident, $read:ident) => {
         extern "C" {
             fn $write(
-                a: *const f64, count: usize, method: u64, first: f64, second: f64, eps: f64, limit: u64,
-                kind: u64, numbers: *const f64, tallies: *const u64, bytes: *mut u8, room: usize, length: *mut u64,
+                record_kind: u64, a: *const f64, count: usize, method: u64, first: f64, second: f64, value_tolerance: f64,
+                point_tolerance: f64, limit: u64, kind: u64, numbers: *const f64, tallies: *const u64, bytes: *mut u8, room: usize,
+                length: *mut u64,
             ) -> u64;
             fn $read(
                 bytes: *const u8, room: usize, a: *mut f64, points: *mut f64, numbers: *mut f64, tallies: *mut u64,
@@ -34,12 +36,14 @@ fn written_by(write: Write, record: &Record, bytes: &mut [u8]) -> (u64, usize) {
     // the length is always written.
     unsafe {
         let refused = write(
+            record.record_kind,
             a.as_ptr(),
             a.len(),
             record.method,
             record.first,
             record.second,
-            record.eps,
+            record.value_tolerance,
+            record.point_tolerance,
             record.limit,
             record.kind,
             record.numbers.as_ptr(),
@@ -66,10 +70,10 @@ pub fn former_write(record: &Record, bytes: &mut [u8]) -> (u64, usize) {
 pub struct Read {
     pub refused: u64,
     a: [f64; 16],
-    points: [f64; 3],
+    points: [f64; 4],
     pub numbers: [f64; 3],
     pub tallies: [u64; 4],
-    words: [u64; 5],
+    words: [u64; 6],
 }
 
 impl Read {
@@ -115,9 +119,9 @@ fn reads_the_same(bytes: &[u8]) -> bool {
         Err(refused) => (refused as u64, Record::default(), 0),
     };
     one.refused == refused
-        && one.words == [length as u64, other.method, other.count as u64, other.limit, other.kind]
+        && one.words == [length as u64, other.method, other.count as u64, other.limit, other.kind, other.record_kind]
         && one.a.map(f64::to_bits) == other.a.map(f64::to_bits)
-        && one.points.map(f64::to_bits) == [other.first, other.second, other.eps].map(f64::to_bits)
+        && one.points.map(f64::to_bits) == [other.first, other.second, other.value_tolerance, other.point_tolerance].map(f64::to_bits)
         && one.numbers.map(f64::to_bits) == other.numbers.map(f64::to_bits)
         && one.tallies == other.tallies
 }
@@ -145,15 +149,21 @@ fn writes_the_same(record: &Record, room: usize) -> bool {
 
 // Calls and answers that have no record, each with one thing wrong.
 fn spoiled(record: &Record) -> Vec<Record> {
-    let spoilers: [fn(&mut Record); 12] = [
+    let spoilers: [fn(&mut Record); 18] = [
+        |record| record.record_kind = 0,
+        |record| record.record_kind = 3,
+        |record| (record.record_kind, record.value_tolerance) = (1, 1.0),
+        |record| (record.record_kind, record.point_tolerance) = (1, 1.0),
         |record| record.method = 0,
         |record| record.method = 6,
         |record| record.count = 0,
         |record| record.a[record.count - 1] = f64::NAN,
         |record| record.first = f64::INFINITY,
         |record| record.second = f64::NEG_INFINITY,
-        |record| record.eps = f64::NAN,
-        |record| record.eps = 1e-91,
+        |record| record.value_tolerance = f64::NAN,
+        |record| record.value_tolerance = 1e-91,
+        |record| record.point_tolerance = f64::NAN,
+        |record| record.point_tolerance = 1e-91,
         |record| record.limit = 401,
         |record| record.kind = 15,
         |record| record.numbers[1] = f64::NAN,

@@ -2,7 +2,7 @@
 
 use crate::calls::{calls_of, Call, Method, Row, COUNTS, METHODS};
 use crate::fail;
-use crate::plain::{self, Record, LONGEST};
+use crate::plain::{self, Record, LONGEST, NEWEST};
 use crate::record_sides::{agree, former_agrees, former_read, former_write, proved_read, proved_write, Read};
 use crate::sides::proved;
 use crate::timing::{batch, passes_of, BATCHES};
@@ -39,11 +39,13 @@ const OF_EACH_METHOD: usize = 100;
 fn record_of(call: &Call) -> Record {
     let answer = proved(call);
     let mut record = Record {
+        record_kind: NEWEST,
         method: call.method as u64,
         count: call.coefficients().len(),
         first: call.first,
         second: call.second,
-        eps: call.eps,
+        value_tolerance: call.value_tolerance,
+        point_tolerance: call.point_tolerance,
         limit: call.limit,
         kind: answer.kind,
         numbers: answer.numbers,
@@ -144,6 +146,13 @@ fn rust_reads(mut file: &[u8]) -> u64 {
     sum
 }
 
+// A record's bytes, by plain Rust.
+fn bytes_of(record: &Record) -> Vec<u8> {
+    let mut bytes = [0; LONGEST];
+    let Ok(length) = plain::write(record, &mut bytes) else { fail("a search has no record") };
+    bytes[..length].to_vec()
+}
+
 // The records of a number of coefficients, and their bytes one behind the other.
 pub struct Drawn {
     records: Vec<Record>,
@@ -155,10 +164,9 @@ impl Drawn {
     pub fn new(count: usize) -> Drawn {
         let (records, mut lengths, mut file) = (records_of(count), Vec::new(), Vec::new());
         for record in &records {
-            let mut bytes = [0; LONGEST];
-            let Ok(length) = plain::write(record, &mut bytes) else { fail("a search has no record") };
-            lengths.push(length);
-            file.extend(&bytes[..length]);
+            let bytes = bytes_of(record);
+            lengths.push(bytes.len());
+            file.extend(bytes);
         }
         Drawn { records, lengths, file }
     }
@@ -172,9 +180,12 @@ impl Drawn {
         })
     }
 
+    // Of each record its other kind too, and two tolerances that differ.
     fn check(&self) {
         for (record, bytes) in self.each() {
-            if !agree(record, bytes) {
+            let old = Record { record_kind: 1, ..record.clone() };
+            let apart = Record { point_tolerance: 0.5, ..record.clone() };
+            if !agree(record, bytes) || !agree(&old, &bytes_of(&old)) || !agree(&apart, &bytes_of(&apart)) {
                 fail(&format!("the sides differ about a record: {record:?}"));
             }
         }

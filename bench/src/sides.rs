@@ -1,4 +1,4 @@
-// One call on either side. Each gets coefficients, starts, eps and limit at run time and returns from a call that is not inlined.
+// One call on either side. Each gets coefficients, starts, tolerances and limit at run time and returns from a call that is not inlined.
 
 use crate::calls::{Call, Method};
 use crate::fail;
@@ -17,21 +17,34 @@ pub enum Side {
     Former,
 }
 
-// As include/roots.h says: coefficients, count, method, both starts, eps, limit, numbers, tallies.
-type Search = unsafe extern "C" fn(*const f64, usize, u64, f64, f64, f64, u64, *mut f64, *mut u64) -> u64;
+// As include/roots.h says: coefficients, count, method, both starts, both tolerances, limit, numbers, tallies.
+type Search = unsafe extern "C" fn(*const f64, usize, u64, f64, f64, f64, f64, u64, *mut f64, *mut u64) -> u64;
+// Version 2 of the interface had one eps.
+type SearchByEps = unsafe extern "C" fn(*const f64, usize, u64, f64, f64, f64, u64, *mut f64, *mut u64) -> u64;
 
 macro_rules! search_as {
-    ($search:ident) => {
+    ($search:ident, $version:ident) => {
         extern "C" {
             fn $search(
-                a: *const f64, count: usize, method: u64, first: f64, second: f64, eps: f64, limit: u64,
-                numbers: *mut f64, tallies: *mut u64,
+                a: *const f64, count: usize, method: u64, first: f64, second: f64, value_tolerance: f64, point_tolerance: f64,
+                limit: u64, numbers: *mut f64, tallies: *mut u64,
             ) -> u64;
+            fn $version() -> u64;
         }
     };
 }
-search_as!(roots_search);
-search_as!(former_roots_search);
+search_as!(roots_search, roots_version);
+search_as!(former_roots_search, former_roots_version);
+
+// Whether the other archive has this one's interface. It has version 2 otherwise, or nothing is compared.
+pub fn former_is_alike() -> bool {
+    // SAFETY: both functions have no parameters and only return a number.
+    let (present, former) = unsafe { (roots_version(), former_roots_version()) };
+    if former != present && former != 2 {
+        fail(&format!("the other archive has version {former} of the interface, this one {present}"));
+    }
+    former == present
+}
 
 // The buffers of a call are left as they are before it: the function writes all of them.
 pub struct Answer {
@@ -53,13 +66,43 @@ fn answered(search: Search, call: &Call) -> Answer {
             call.method as u64,
             call.first,
             call.second,
-            call.eps,
+            call.value_tolerance,
+            call.point_tolerance,
             call.limit,
             (*at).numbers.as_mut_ptr(),
             (*at).tallies.as_mut_ptr(),
         );
         answer.assume_init()
     }
+}
+
+// The same by version 2, whose eps is both tolerances.
+#[inline(always)]
+fn answered_by_eps(search: SearchByEps, call: &Call) -> Answer {
+    let mut answer = MaybeUninit::<Answer>::uninit();
+    let at = answer.as_mut_ptr();
+    let a = call.coefficients();
+    // SAFETY: as above.
+    unsafe {
+        (*at).kind = search(
+            a.as_ptr(),
+            a.len(),
+            call.method as u64,
+            call.first,
+            call.second,
+            call.value_tolerance,
+            call.limit,
+            (*at).numbers.as_mut_ptr(),
+            (*at).tallies.as_mut_ptr(),
+        );
+        answer.assume_init()
+    }
+}
+
+// The other archive's search, where it is of version 2.
+fn former_by_eps() -> SearchByEps {
+    // SAFETY: both are pointers to functions, and that version's has this type.
+    unsafe { std::mem::transmute::<Search, SearchByEps>(former_roots_search) }
 }
 
 #[inline(always)]
@@ -104,7 +147,7 @@ fn polynomial_search(a: &[f64], first: f64, second: f64, eps: f64, limit: u64) -
 #[inline(always)]
 fn rust_by(method: Method, call: &Call) -> Result<f64, SearchError> {
     let a = call.coefficients();
-    let Call { first, second, eps, limit, .. } = *call;
+    let Call { first, second, value_tolerance: eps, limit, .. } = *call;
     match method {
         Method::Brent => brent(a, first, second, eps, limit),
         Method::Illinois => illinois(a, first, second, eps, limit),
@@ -165,23 +208,30 @@ pub fn checked(call: &Call) -> (u64, [u64; 4]) {
 
 // Both archives must give the same answer, bit for bit.
 pub fn former_agrees(call: &Call) -> bool {
-    let (one, other) = (proved(call), answered(former_roots_search, call));
+    let one = proved(call);
+    let other = if former_is_alike() { answered(former_roots_search, call) } else { answered_by_eps(former_by_eps(), call) };
     one.kind == other.kind && one.numbers.map(f64::to_bits) == other.numbers.map(f64::to_bits) && one.tallies == other.tallies
 }
 
 #[inline(always)]
-fn summed_by(search: Search, calls: &[Call]) -> u64 {
-    calls.iter().fold(0, |sum: u64, call| sum.wrapping_add(number_of_proved(&answered(search, call))))
+fn summed_by(answer: impl Fn(&Call) -> Answer, calls: &[Call]) -> u64 {
+    calls.iter().fold(0, |sum: u64, call| sum.wrapping_add(number_of_proved(&answer(call))))
 }
 
 #[inline(never)]
 fn summed_proved(calls: &[Call]) -> u64 {
-    summed_by(roots_search, calls)
+    summed_by(proved, calls)
 }
 
 #[inline(never)]
 fn summed_former(calls: &[Call]) -> u64 {
-    summed_by(former_roots_search, calls)
+    summed_by(|call| answered(former_roots_search, call), calls)
+}
+
+#[inline(never)]
+fn summed_former_by_eps(calls: &[Call]) -> u64 {
+    let search = former_by_eps();
+    summed_by(|call| answered_by_eps(search, call), calls)
 }
 
 #[inline(never)]
@@ -226,6 +276,7 @@ pub fn summed(side: Side, calls: &[Call]) -> u64 {
         Side::Proved => summed_proved(calls),
         Side::Rust => summed_rust(calls),
         Side::Telling => summed_telling(calls),
-        Side::Former => summed_former(calls),
+        Side::Former if former_is_alike() => summed_former(calls),
+        Side::Former => summed_former_by_eps(calls),
     }
 }

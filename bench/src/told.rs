@@ -3,6 +3,7 @@
 // does less. The polynomial search has no closure to count in, and is left out.
 
 use crate::calls::{Call, Method};
+use crate::plain::LEAST_TOLERANCE;
 use crate::sides::Answer;
 use roots::{find_root_brent, find_root_newton_raphson, find_root_regula_falsi, find_root_secant};
 use roots::{Convergency, Polynom, SearchError};
@@ -16,28 +17,42 @@ enum Last {
 }
 
 struct Telling {
-    eps: f64,
+    value_tolerance: f64,
+    point_tolerance: f64,
     limit: u64,
     steps: u64,
     last: Last,
+}
+
+impl Telling {
+    #[inline(always)]
+    fn new(call: &Call) -> Telling {
+        let Call { value_tolerance, point_tolerance, limit, .. } = *call;
+        Telling { value_tolerance, point_tolerance, limit, steps: 0, last: Last::Value(0.0) }
+    }
 }
 
 impl Convergency<f64> for Telling {
     #[inline(always)]
     fn is_root_found(&mut self, y: f64) -> bool {
         self.last = Last::Value(y);
-        y.abs() < self.eps
+        y.abs() < self.value_tolerance
     }
     #[inline(always)]
     fn is_converged(&mut self, x1: f64, x2: f64) -> bool {
         self.last = Last::Width(x1, x2);
-        (x1 - x2).abs() < self.eps
+        (x1 - x2).abs() < self.point_tolerance
     }
     #[inline(always)]
     fn is_iteration_limit_reached(&mut self, iter: usize) -> bool {
         self.steps = iter as u64;
         iter as u64 >= self.limit
     }
+}
+
+#[inline(always)]
+fn bad_tolerance(x: f64) -> bool {
+    !x.is_finite() || x < LEAST_TOLERANCE
 }
 
 // 1 to 5 in that order, before any evaluation, as the proved side has them.
@@ -50,7 +65,7 @@ fn refusal(call: &Call, second: f64) -> u64 {
         2
     } else if !call.first.is_finite() || !second.is_finite() {
         3
-    } else if !call.eps.is_finite() || call.eps < 4.909093465297727e-91 {
+    } else if bad_tolerance(call.value_tolerance) || bad_tolerance(call.point_tolerance) {
         4
     } else if call.limit > 400 {
         5
@@ -96,7 +111,7 @@ macro_rules! by_values {
                 finite.set(finite.get() & y.is_finite());
                 y
             };
-            let mut telling = Telling { eps: call.eps, limit: call.limit, steps: 0, last: Last::Value(0.0) };
+            let mut telling = Telling::new(call);
             let result = $search(call.first, call.second, value, &mut telling);
             let worked_out_again = $again * telling.steps;
             told(result, telling, [values.get() - worked_out_again, 0], finite.get())
@@ -128,7 +143,7 @@ fn newton(call: &Call) -> Answer {
         finite.set(finite.get() & slope.is_finite());
         slope
     };
-    let mut telling = Telling { eps: call.eps, limit: call.limit, steps: 0, last: Last::Value(0.0) };
+    let mut telling = Telling::new(call);
     let result = find_root_newton_raphson(call.first, value, derivative, &mut telling);
     told(result, telling, [values.get(), derivatives.get()], finite.get())
 }

@@ -1,7 +1,8 @@
 /*
- * A search on file: makes the search of W6 of document 01, writes its record, prints the bytes, reads them
- * back and prints what was read. The exit status is 1 where the bytes or what was read differ from those
- * that were worked out by hand.
+ * A search on file: makes the search of W6 of document 01, with a point tolerance of its own, writes its
+ * record, prints the bytes, reads them back and prints what was read; then does so with W6's record as
+ * older programs wrote it. The exit status is 1 where the bytes or what was read differ from those that
+ * were worked out by hand.
  */
 #include <inttypes.h>
 #include <math.h>
@@ -10,20 +11,25 @@
 
 #include "roots.h"
 
-/* A call and its answer. */
+/* A call and its answer, and the kind of their record. */
 struct searched {
+    uint64_t record_kind;
     double coefficients[ROOTS_MOST_COEFFICIENTS];
     uint64_t count, method;
-    double first, second, eps;
+    double first, second, value_tolerance, point_tolerance;
     uint64_t limit;
     uint64_t kind;
     double numbers[3];
     uint64_t tallies[4];
 };
 
-/* W6: Illinois on x^2 - 1 between 0 and 1, eps 1/1024, limit 1. It finds the root 1, whose value is 0. */
+/*
+ * W6: Illinois on x^2 - 1 between 0 and 1, value tolerance 1/1024, point tolerance 1/64, limit 1. It finds
+ * the root 1, whose value is 0.
+ */
 static const struct searched w6 = {
-    {0, -1}, 2, ROOTS_ILLINOIS, 0, 1, 1.0 / 1024, 1, ROOTS_BY_VALUE, {1, 0, 0}, {0, 2, 0, 0},
+    ROOTS_NEWEST_RECORD, {0, -1}, 2, ROOTS_ILLINOIS, 0, 1, 1.0 / 1024, 1.0 / 64, 1,
+    ROOTS_BY_VALUE, {1, 0, 0}, {0, 2, 0, 0},
 };
 
 /*
@@ -31,25 +37,38 @@ static const struct searched w6 = {
  * A double is its 64 bits: byte 7 holds bits 49 to 55, byte 8 bits 56 to 62, byte 9 bit 63.
  */
 static const uint8_t by_hand[] = {
+    0x00, 0x02,                                                 /* kind 2 of records */
     0x02,                                                       /* method 2, Illinois */
     0x02,                                                       /* 2 coefficients */
     0x00,                                                       /* 0: no bit is set */
     0x80, 0x80, 0x80, 0x80, 0x80, 0x80, 0x80, 0xf8, 0xbf, 0x01, /* -1: bff0000000000000, bits 52 to 61 and 63 */
     0x00,                                                       /* first 0 */
     0x80, 0x80, 0x80, 0x80, 0x80, 0x80, 0x80, 0xf8, 0x3f,       /* second 1: 3ff0000000000000, bits 52 to 61 */
-    0x80, 0x80, 0x80, 0x80, 0x80, 0x80, 0x80, 0xa8, 0x3f,       /* eps: 3f50000000000000, bits 52, 54, 56 to 61 */
+    0x80, 0x80, 0x80, 0x80, 0x80, 0x80, 0x80, 0xa8, 0x3f,       /* 1/1024: 3f50000000000000, bits 52, 54, 56 to 61 */
+    0x80, 0x80, 0x80, 0x80, 0x80, 0x80, 0x80, 0xc8, 0x3f,       /* 1/64: 3f90000000000000, bits 52, 55, 56 to 61 */
     0x01,                                                       /* limit 1 */
-    0x00,                                                       /* kind 0, by value */
+    0x00,                                                       /* kind 0 of answers, by value */
     0x80, 0x80, 0x80, 0x80, 0x80, 0x80, 0x80, 0xf8, 0x3f,       /* the root 1 */
     0x00,                                                       /* its value 0 */
     0x00, 0x02, 0x00, 0x00,                                     /* 0 steps, 2 values, 0 derivatives, mark 0 */
 };
 
+/* W6 with 1/1024 for values and points, as a record of kind 1: it begins with its method. */
+static const uint8_t old_by_hand[] = {
+    0x02, 0x02,                                                       /* method 2, 2 coefficients */
+    0x00, 0x80, 0x80, 0x80, 0x80, 0x80, 0x80, 0x80, 0xf8, 0xbf, 0x01, /* 0 and -1 */
+    0x00, 0x80, 0x80, 0x80, 0x80, 0x80, 0x80, 0x80, 0xf8, 0x3f,       /* first 0, second 1 */
+    0x80, 0x80, 0x80, 0x80, 0x80, 0x80, 0x80, 0xa8, 0x3f,             /* 1/1024, both tolerances */
+    0x01, 0x00,                                                       /* limit 1; by value */
+    0x80, 0x80, 0x80, 0x80, 0x80, 0x80, 0x80, 0xf8, 0x3f, 0x00,       /* the root 1, its value 0 */
+    0x00, 0x02, 0x00, 0x00,                                           /* 2 values */
+};
+
 /* Makes the call, and puts its answer in. */
 static void search(struct searched *s)
 {
-    s->kind = roots_search(s->coefficients, s->count, s->method, s->first, s->second, s->eps, s->limit,
-                           s->numbers, s->tallies);
+    s->kind = roots_search(s->coefficients, s->count, s->method, s->first, s->second, s->value_tolerance,
+                           s->point_tolerance, s->limit, s->numbers, s->tallies);
 }
 
 /* Writes the record. Returns its length, or 0 where it is refused. */
@@ -57,21 +76,24 @@ static size_t written(const struct searched *s, uint8_t *bytes, size_t room)
 {
     uint64_t length;
 
-    roots_record_write(s->coefficients, s->count, s->method, s->first, s->second, s->eps, s->limit, s->kind,
-                       s->numbers, s->tallies, bytes, room, &length);
+    roots_record_write(s->record_kind, s->coefficients, s->count, s->method, s->first, s->second,
+                       s->value_tolerance, s->point_tolerance, s->limit, s->kind, s->numbers, s->tallies, bytes,
+                       room, &length);
     return length;
 }
 
 /* Reads the record at the start of the bytes. Returns its length, or 0 where it is refused. */
 static size_t was_read(const uint8_t *bytes, size_t room, struct searched *s)
 {
-    double points[3];
-    uint64_t words[5];
+    double points[4];
+    uint64_t words[6];
 
     roots_record_read(bytes, room, s->coefficients, points, s->numbers, s->tallies, words);
     s->first = points[ROOTS_FIRST];
     s->second = points[ROOTS_SECOND];
-    s->eps = points[ROOTS_EPS];
+    s->value_tolerance = points[ROOTS_VALUE_TOLERANCE];
+    s->point_tolerance = points[ROOTS_POINT_TOLERANCE];
+    s->record_kind = words[ROOTS_RECORD_KIND];
     s->method = words[ROOTS_METHOD];
     s->count = words[ROOTS_COUNT];
     s->limit = words[ROOTS_LIMIT];
@@ -91,10 +113,11 @@ static void print_read(const struct searched *s)
 {
     uint64_t i;
 
-    printf("method %" PRIu64 ", coefficients", s->method);
+    printf("record of kind %" PRIu64 ": method %" PRIu64 ", coefficients", s->record_kind, s->method);
     for (i = 0; i < s->count; i++)
         printf(" %g", s->coefficients[i]);
-    printf(", starts %g %g, eps %.10g, limit %" PRIu64 "\n", s->first, s->second, s->eps, s->limit);
+    printf(", starts %g %g, tolerances %.10g %.10g, limit %" PRIu64 "\n", s->first, s->second,
+           s->value_tolerance, s->point_tolerance, s->limit);
     printf("kind %" PRIu64 ", numbers %.17g %.17g %.17g\n", s->kind, s->numbers[0], s->numbers[1], s->numbers[2]);
     printf("steps %" PRIu64 ", values %" PRIu64 ", derivatives %" PRIu64 ", mark %" PRIu64 "\n",
            s->tallies[ROOTS_STEPS], s->tallies[ROOTS_VALUES], s->tallies[ROOTS_DERIVATIVES],
@@ -143,6 +166,25 @@ static int newton_differs(void)
                    "Newton's start");
 }
 
+/* An old record reads as both tolerances equal and is written back in its own kind, and only so. */
+static int old_differs(void)
+{
+    struct searched s = w6, got;
+    uint8_t bytes[sizeof old_by_hand];
+    size_t length;
+    int wrong = 0;
+
+    s.record_kind = 1;
+    wrong += differs(written(&s, bytes, sizeof bytes) == 0, "two tolerances in kind 1");
+    s.point_tolerance = s.value_tolerance;
+    length = was_read(old_by_hand, sizeof old_by_hand, &got);
+    print_read(&got);
+    wrong += differs(length == sizeof bytes && memcmp(&got, &s, sizeof got) == 0, "an old record read");
+    length = written(&got, bytes, sizeof bytes);
+    wrong += differs(length == sizeof bytes && memcmp(bytes, old_by_hand, length) == 0, "an old record's bytes");
+    return wrong;
+}
+
 int main(void)
 {
     struct searched s = w6, got;
@@ -163,6 +205,7 @@ int main(void)
     wrong += differs(memcmp(&got, &w6, sizeof got) == 0, "what was read");
     wrong += refusals_differ(&w6, by_hand, sizeof by_hand);
     wrong += newton_differs();
-    printf("a record of %d bytes, %d different\n", (int)length, wrong);
+    wrong += old_differs();
+    printf("records of %d and %d bytes, %d different\n", (int)length, (int)sizeof old_by_hand, wrong);
     return wrong != 0;
 }

@@ -41,7 +41,7 @@ static double next_double(char **at)
 /* Asks the archive what a line asks, and writes the answer as a line. */
 static void answered(char *line, char *out)
 {
-    double a[MOST], numbers[3], first, second = 0.0, eps;
+    double a[MOST], numbers[3], first, second = 0.0, value_tolerance, point_tolerance;
     uint64_t tallies[4], kind, limit;
     unsigned long method = strtoul(field(&line), NULL, 10);
     size_t count = strtoul(field(&line), NULL, 10), i;
@@ -50,9 +50,10 @@ static void answered(char *line, char *out)
     first = next_double(&line);
     if (method != ROOTS_NEWTON)
         second = next_double(&line);
-    eps = next_double(&line);
+    value_tolerance = next_double(&line);
+    point_tolerance = next_double(&line);
     limit = strtoull(field(&line), NULL, 10);
-    kind = roots_search(a, count, method, first, second, eps, limit, numbers, tallies);
+    kind = roots_search(a, count, method, first, second, value_tolerance, point_tolerance, limit, numbers, tallies);
     out += sprintf(out, "%" PRIu64, kind);
     for (i = 0; i < (kind == ROOTS_BY_VALUE ? 2u : kind == ROOTS_BY_WIDTH ? 3u : 0u); i++)
         out += sprintf(out, " %016" PRIx64, to_bits(numbers[i]));

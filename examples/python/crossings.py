@@ -11,7 +11,7 @@ import sys
 
 HERE = os.path.dirname(os.path.abspath(__file__))
 LINES = os.path.join(HERE, '..', '..', 'tools', 'lines')
-ILLINOIS, EPS, LIMIT = 2, 1e-12, 100
+ILLINOIS, EPS, LIMIT = 2, 1e-12, 100  # the eps is both tolerances
 LEAST = 1e-7  # dots: a leading term below it moves no point of the piece by more than that
 
 
@@ -61,7 +61,7 @@ def double(word):
 
 
 def call(coefficients, begin, end):
-    words = [str(ILLINOIS), str(len(coefficients))] + [bits(x) for x in coefficients + [begin, end, EPS]]
+    words = [str(ILLINOIS), str(len(coefficients))] + [bits(x) for x in coefficients + [begin, end, EPS, EPS]]
     return ' '.join(words + [str(LIMIT)])
 
 

@@ -8,7 +8,8 @@ extern "C" {
         method: u64,
         first: f64,
         second: f64,
-        eps: f64,
+        value_tolerance: f64,
+        point_tolerance: f64,
         limit: u64,
         numbers: *mut [f64; 3],
         tallies: *mut [u64; 4],
@@ -21,7 +22,18 @@ pub fn answer(call: &Call) -> String {
     let (mut numbers, mut tallies) = ([0.0; 3], [0; 4]);
     // SAFETY: the pointers are to live buffers that do not overlap, and count is the first one's length.
     let kind = unsafe {
-        roots_search(a.as_ptr(), a.len(), call.method as u64, call.starts[0], second, call.eps, call.limit, &mut numbers, &mut tallies)
+        roots_search(
+            a.as_ptr(),
+            a.len(),
+            call.method as u64,
+            call.starts[0],
+            second,
+            call.value_tolerance,
+            call.point_tolerance,
+            call.limit,
+            &mut numbers,
+            &mut tallies,
+        )
     };
     let doubles = match kind {
         0 => 2,

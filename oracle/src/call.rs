@@ -1,11 +1,12 @@
-// One call a line: METHOD COUNT A0 .. START [START] EPS LIMIT, doubles as 16 hex digits of their bits.
+// One call a line: METHOD COUNT A0 .. START [START] VALUE_TOLERANCE POINT_TOLERANCE LIMIT. Doubles are 16 hex digits, their bits.
 
 #[derive(Clone)]
 pub struct Call {
     pub method: u8,
     pub coefficients: Vec<f64>,
     pub starts: Vec<f64>,
-    pub eps: f64,
+    pub value_tolerance: f64,
+    pub point_tolerance: f64,
     pub limit: u64,
 }
 
@@ -41,19 +42,34 @@ pub fn read(line: &str) -> Option<Call> {
     let count = decimal(fields.next())?;
     let coefficients = (0..count).map(|_| double(fields.next())).collect::<Option<Vec<_>>>()?;
     let starts = (0..starts(method)).map(|_| double(fields.next())).collect::<Option<Vec<_>>>()?;
-    let eps = double(fields.next())?;
+    let value_tolerance = double(fields.next())?;
+    let point_tolerance = double(fields.next())?;
     let limit = decimal(fields.next())?;
     if fields.next().is_some() {
         return None;
     }
-    Some(Call { method, coefficients, starts, eps, limit })
+    Some(Call { method, coefficients, starts, value_tolerance, point_tolerance, limit })
 }
 
 impl Call {
+    pub fn tolerances(&self) -> [f64; 2] {
+        [self.value_tolerance, self.point_tolerance]
+    }
+
+    // The same call with two equal tolerances: the Rust's one eps.
+    pub fn with_eps(&self, eps: f64) -> Call {
+        Call { value_tolerance: eps, point_tolerance: eps, ..self.clone() }
+    }
+
+    // Equal and different are of the 64 bits.
+    pub fn has_one_eps(&self) -> bool {
+        self.value_tolerance.to_bits() == self.point_tolerance.to_bits()
+    }
+
     pub fn line(&self) -> String {
         use std::fmt::Write;
         let mut line = format!("{} {}", self.method, self.coefficients.len());
-        for x in self.coefficients.iter().chain(&self.starts).chain([&self.eps]) {
+        for x in self.coefficients.iter().chain(&self.starts).chain(&self.tolerances()) {
             write!(line, " {:016x}", x.to_bits()).unwrap();
         }
         write!(line, " {}", self.limit).unwrap();
@@ -63,6 +79,11 @@ impl Call {
     // The same call for a reader's eyes.
     pub fn in_words(&self) -> String {
         let method = METHODS[self.method as usize - 1];
-        format!("{method} {:?} from {:?}, eps {:?}, limit {}", self.coefficients, self.starts, self.eps, self.limit)
+        let tolerances = if self.has_one_eps() {
+            format!("eps {:?}", self.value_tolerance)
+        } else {
+            format!("value tolerance {:?}, point tolerance {:?}", self.value_tolerance, self.point_tolerance)
+        };
+        format!("{method} {:?} from {:?}, {tolerances}, limit {}", self.coefficients, self.starts, self.limit)
     }
 }

@@ -97,7 +97,7 @@ fn refused_at_once(call: &Call) -> Option<u8> {
         Some(2)
     } else if call.starts.iter().any(|x| !x.is_finite()) {
         Some(3)
-    } else if !(call.eps.is_finite() && call.eps >= families::power_of_two(-300)) {
+    } else if call.tolerances().iter().any(|x| !(x.is_finite() && *x >= families::power_of_two(-300))) {
         Some(4)
     } else if call.limit > 400 {
         Some(5)
@@ -263,22 +263,43 @@ struct Counts {
     marks: [u64; 3],
     judged: u64,
     steps: u64,
+    different: Different,
+}
+
+// Of the calls with two different tolerances: how many there are, how many the Rust tells, in how many the value
+// tolerance is the larger one and in how many the smaller, and in how many by a factor of 1000 or more. Neither is it
+// where one of them is a NaN.
+#[derive(Default, Clone)]
+struct Different {
+    calls: u64,
+    judged: u64,
+    value_larger: u64,
+    value_smaller: u64,
+    far_larger: u64,
+    far_smaller: u64,
 }
 
 impl Counts {
-    fn add(&mut self, answer: &str) {
+    fn add(&mut self, call: &Call, answer: &str) {
         let Some((kind, steps, _, _, mark)) = parts(answer) else { return };
+        let judged = mark == 0 && !(11..=15).contains(&kind);
         self.calls += 1;
         self.kinds[kind as usize] += 1;
         self.marks[mark as usize] += 1;
         self.steps += steps;
-        if mark == 0 && !(11..=15).contains(&kind) {
-            self.judged += 1;
+        self.judged += u64::from(judged);
+        if !call.has_one_eps() {
+            self.different.calls += 1;
+            self.different.judged += u64::from(judged);
+            self.different.value_larger += u64::from(call.value_tolerance > call.point_tolerance);
+            self.different.value_smaller += u64::from(call.value_tolerance < call.point_tolerance);
+            self.different.far_larger += u64::from(judged && call.value_tolerance / 1000.0 >= call.point_tolerance);
+            self.different.far_smaller += u64::from(judged && call.point_tolerance / 1000.0 >= call.value_tolerance);
         }
     }
 }
 
-fn print_table(counts: &[Counts]) {
+fn sum(counts: &[Counts]) -> Counts {
     let mut all = Counts::default();
     for c in counts {
         all.calls += c.calls;
@@ -286,14 +307,32 @@ fn print_table(counts: &[Counts]) {
         all.steps += c.steps;
         (0..20).for_each(|i| all.kinds[i] += c.kinds[i]);
         (0..3).for_each(|i| all.marks[i] += c.marks[i]);
+        all.different.calls += c.different.calls;
+        all.different.judged += c.different.judged;
+        all.different.value_larger += c.different.value_larger;
+        all.different.value_smaller += c.different.value_smaller;
+        all.different.far_larger += c.different.far_larger;
+        all.different.far_smaller += c.different.far_smaller;
     }
+    all
+}
+
+fn print_table(counts: &[Counts]) {
+    let all = sum(counts);
+    let rows = || METHODS.iter().zip(counts).chain([(&"all", &all)]);
     print!("{:18}{:>10}{:>10}{:>9}{:>9}", "method", "calls", "by Rust", "value", "width");
     (1..=9).for_each(|i| print!("{:>9}", format!("no. {i}")));
     println!("{:>10}{:>8}{:>8}{:>12}", "mark 0", "mark 1", "mark 2", "steps");
-    for (name, c) in METHODS.iter().zip(counts).chain([(&"all", &all)]) {
+    for (name, c) in rows() {
         print!("{name:18}{:>10}{:>10}{:>9}{:>9}", c.calls, c.judged, c.kinds[0], c.kinds[1]);
         (11..20).for_each(|i| print!("{:>9}", c.kinds[i]));
         println!("{:>10}{:>8}{:>8}{:>12}", c.marks[0], c.marks[1], c.marks[2], c.steps);
+    }
+    let [calls, judged, larger, smaller] = ["calls", "by Rust", "value larger", "value smaller"];
+    println!("{:18}{calls:>10}{judged:>10}{larger:>16}{smaller:>16}{:>14}{:>14}", "two tolerances", "1000 times", "a 1000th");
+    for (name, Counts { different: d, .. }) in rows() {
+        print!("{name:18}{:>10}{:>10}{:>16}{:>16}", d.calls, d.judged, d.value_larger, d.value_smaller);
+        println!("{:>14}{:>14}", d.far_larger, d.far_smaller);
     }
 }
 
@@ -354,7 +393,7 @@ fn compare_file(options: &Options, path: &str) {
             println!("stored:             {}\nthe line tool says: {answer}", stored.as_ref().unwrap());
             std::process::exit(1);
         }
-        counts[call.method as usize - 1].add(&answer);
+        counts[call.method as usize - 1].add(call, &answer);
     }
     println!("{} calls of {path}: no difference", calls.len());
     print_table(&counts);
@@ -386,7 +425,7 @@ fn main() {
             if let Some(reason) = reason {
                 report(&options, call, &reason);
             }
-            counts[call.method as usize - 1].add(&answer);
+            counts[call.method as usize - 1].add(call, &answer);
         }
     }
     let count: u64 = counts.iter().map(|c| c.calls).sum();

@@ -133,6 +133,49 @@ fn small_eps(r: &mut Random) -> f64 {
     }
 }
 
+// A tolerance as it comes with small whole numbers.
+fn several(r: &mut Random) -> f64 {
+    r.pick(&[0.5, 1.0, 1.5, 2.0, 3.0, 4.0, 6.0, 100.0])
+}
+
+// Most of these are refused with 4; the least tolerance and the double above it pass.
+fn bad_tolerance(r: &mut Random) -> f64 {
+    match r.below(6) {
+        0 => not_finite(r),
+        1 => zero(r),
+        2 => -eps(r),
+        3 => power_of_two(-301),
+        4 => neighbour(power_of_two(-300), r.between(-1, 1)),
+        _ => subnormal(r),
+    }
+}
+
+// Another tolerance than this one: larger or smaller by a power of two, one unit in the last place away, or the least.
+fn another_tolerance(r: &mut Random, tolerance: f64) -> f64 {
+    let least = power_of_two(-300);
+    let most = r.pick(&[4, 12, 250]);
+    let factor = power_of_two(r.between(1, most));
+    let other = match r.below(10) {
+        0 => neighbour(tolerance, r.pick(&[1, -1])),
+        1 => least,
+        2..=5 => tolerance * factor,
+        _ => tolerance / factor,
+    };
+    match other.clamp(least, f64::MAX) {
+        same if same == tolerance => same * if same < 1.0 { 2.0 } else { 0.5 },
+        other => other,
+    }
+}
+
+// Leaves one of two equal tolerances and changes the other.
+fn part_tolerances(r: &mut Random, call: &mut Call) {
+    if r.one_in(2) {
+        call.value_tolerance = another_tolerance(r, call.value_tolerance);
+    } else {
+        call.point_tolerance = another_tolerance(r, call.point_tolerance);
+    }
+}
+
 fn limit(r: &mut Random) -> u64 {
     match r.below(16) {
         0 => 0,
@@ -213,7 +256,7 @@ pub const NAMES: [(u64, &str); 20] = [
     (14, "any finite doubles"),
     (15, "starts some places apart beside a root"),
     (16, "odd and even polynomials, starts alike in size"),
-    (17, "one or two coefficients, all sizes of eps"),
+    (17, "one or two coefficients, all sizes of the tolerances"),
     (18, "steep at zero"),
     (19, "long runs"),
     (20, "the edge of overflow"),
@@ -240,6 +283,9 @@ pub fn call(seed: u64, index: u64, known: &[Call]) -> Call {
     let (mut r, method, family) = chosen(seed, index);
     let r = &mut r;
     let mut call = made(r, method, family, known);
+    if call.has_one_eps() && r.one_in(2) {
+        part_tolerances(r, &mut call);
+    }
     if r.one_in(16) && call.starts.len() == 2 {
         // Equal starts, also with the other zero.
         call.starts[1] = call.starts[0];
@@ -255,12 +301,9 @@ pub fn call(seed: u64, index: u64, known: &[Call]) -> Call {
 
 fn made(r: &mut Random, method: u8, family: u64, known: &[Call]) -> Call {
     let n = count(r);
-    let plain = |r: &mut Random, coefficients: Vec<f64>, pair: Vec<f64>| Call {
-        method,
-        coefficients,
-        starts: cut(method, pair),
-        eps: eps(r),
-        limit: limit(r),
+    let plain = |r: &mut Random, coefficients: Vec<f64>, pair: Vec<f64>| {
+        let (starts, eps) = (cut(method, pair), eps(r));
+        Call { method, coefficients, starts, value_tolerance: eps, point_tolerance: eps, limit: limit(r) }
     };
     match family {
         // Small whole numbers.
@@ -304,7 +347,7 @@ fn made(r: &mut Random, method: u8, family: u64, known: &[Call]) -> Call {
             let a = from_roots(&roots);
             let near = centre + whole(r, 20) * width;
             let pair = vec![near, if r.one_in(2) { centre + scaled(r, -3, 3) } else { centre - whole(r, 20) * width }];
-            Call { eps: small_eps(r), ..plain(r, a, pair) }
+            plain(r, a, pair).with_eps(small_eps(r))
         }
         // Many equal steps: 1, 2, .., n as roots.
         9 => {
@@ -326,7 +369,7 @@ fn made(r: &mut Random, method: u8, family: u64, known: &[Call]) -> Call {
                 1 => whole(r, 2),
                 _ => scaled(r, -700, -20),
             });
-            Call { eps: small_eps(r), ..plain(r, a, pair) }
+            plain(r, a, pair).with_eps(small_eps(r))
         }
         // One root far out, the other end tiny: the sign of a tiny value decides.
         11 => {
@@ -341,7 +384,7 @@ fn made(r: &mut Random, method: u8, family: u64, known: &[Call]) -> Call {
                 },
                 fraction(r),
             ];
-            Call { eps: small_eps(r), ..plain(r, a, pair) }
+            plain(r, a, pair).with_eps(small_eps(r))
         }
         // Near overflow.
         12 => {
@@ -362,13 +405,13 @@ fn made(r: &mut Random, method: u8, family: u64, known: &[Call]) -> Call {
             let n = r.between(1, 4) as u64;
             let a = many(r, n, |r| if r.one_in(2) { scaled(r, 900, 1023) } else { scaled(r, -1000, 2) });
             let pair = bracket(r, &a, |r| if r.one_in(3) { whole(r, 2) } else { scaled(r, -900, 10) });
-            Call { eps: small_eps(r), ..plain(r, a, pair) }
+            plain(r, a, pair).with_eps(small_eps(r))
         }
         // Any finite doubles.
         14 => {
             let a = many(r, n, any_finite);
             let pair = bracket(r, &a, any_finite);
-            Call { eps: small_eps(r), ..plain(r, a, pair) }
+            plain(r, a, pair).with_eps(small_eps(r))
         }
         // Starts some places apart beside a root.
         15 => {
@@ -377,7 +420,7 @@ fn made(r: &mut Random, method: u8, family: u64, known: &[Call]) -> Call {
             roots[0] = root;
             let a = from_roots(&roots);
             let pair = vec![neighbour(root, r.between(-4, 4)), neighbour(root, r.between(-40, 40))];
-            Call { eps: small_eps(r), ..plain(r, a, pair) }
+            plain(r, a, pair).with_eps(small_eps(r))
         }
         // Odd or even polynomials with starts alike in size: ties, flat starts.
         16 => {
@@ -388,13 +431,15 @@ fn made(r: &mut Random, method: u8, family: u64, known: &[Call]) -> Call {
             let start = if r.one_in(4) { zero(r) } else { fraction(r) };
             plain(r, a, vec![start, -start])
         }
-        // One or two coefficients with all sizes of eps: flat, found and wide at once.
+        // One or two coefficients with all sizes of the tolerances: flat, found and wide at once.
         17 => {
             let n = r.between(1, 2) as u64;
             let a = many(r, n, |r| whole(r, 3) * r.pick(&[1.0, 0.5, 100.0]));
             let pair = many(r, 2, |r| whole(r, 3) * r.pick(&[1.0, 0.5, -0.0]));
-            let mut call = plain(r, a, pair);
-            call.eps = r.pick(&[0.5, 1.0, 1.5, 2.0, 3.0, 4.0, 6.0, 100.0]);
+            let mut call = plain(r, a, pair).with_eps(several(r));
+            if r.one_in(2) {
+                call.point_tolerance = several(r);
+            }
             call
         }
         // Steep at zero: a start at or beside zero, where the width is small and the slope huge.
@@ -418,7 +463,7 @@ fn made(r: &mut Random, method: u8, family: u64, known: &[Call]) -> Call {
                 1 => scaled(r, -310, 2),
                 _ => scaled(r, -310, -150),
             });
-            Call { eps: power_of_two(r.between(-300, -280)), ..plain(r, a, pair) }
+            plain(r, a, pair).with_eps(power_of_two(r.between(-300, -280)))
         }
         // Long runs: a bracket, a root of odd order and an eps that is hardly ever met.
         19 => {
@@ -429,7 +474,7 @@ fn made(r: &mut Random, method: u8, family: u64, known: &[Call]) -> Call {
             roots.extend(many(r, others, |r| whole(r, 9)));
             let a = from_roots(&roots);
             let pair = bracket(r, &a, |r| scaled(r, -1, 5));
-            Call { eps: small_eps(r), limit: r.pick(&[30, 100, 400]), ..plain(r, a, pair) }
+            Call { limit: r.pick(&[30, 100, 400]), ..plain(r, a, pair).with_eps(small_eps(r)) }
         }
         // The edge of overflow: the largest doubles beside some of their last places.
         20 => {
@@ -476,14 +521,12 @@ fn made(r: &mut Random, method: u8, family: u64, known: &[Call]) -> Call {
             }
             let mut call = plain(r, a, pair);
             if r.one_in(3) {
-                call.eps = match r.below(6) {
-                    0 => not_finite(r),
-                    1 => zero(r),
-                    2 => -eps(r),
-                    3 => power_of_two(-301),
-                    4 => neighbour(power_of_two(-300), r.between(-1, 1)),
-                    _ => subnormal(r),
-                };
+                let (bad, other) = (bad_tolerance(r), bad_tolerance(r));
+                match r.below(5) {
+                    0..=1 => call.value_tolerance = bad,
+                    2..=3 => call.point_tolerance = bad,
+                    _ => (call.value_tolerance, call.point_tolerance) = (bad, r.pick(&[bad, other])),
+                }
             }
             if r.one_in(3) {
                 call.limit = match r.below(3) {
@@ -502,7 +545,11 @@ fn change(r: &mut Random, call: &mut Call) {
     let n = call.coefficients.len() as u64;
     match r.below(8) {
         0 => call.limit = limit(r),
-        1 => call.eps = eps(r),
+        1 => match r.below(3) {
+            0 => call.value_tolerance = eps(r),
+            1 => call.point_tolerance = eps(r),
+            _ => *call = call.with_eps(eps(r)),
+        },
         2 => {
             call.method = r.between(1, 5) as u8;
             let other = fraction(r);
@@ -536,12 +583,12 @@ fn changed(r: &mut Random, x: f64) -> f64 {
     }
 }
 
-// Every call with one to three small coefficients, small starts and a few stop rules.
+// Every call with one to three small coefficients, small starts and a few stop rules; two different tolerances have fewer limits.
 pub fn small() -> impl Iterator<Item = Call> {
     const COEFFICIENTS: [f64; 5] = [-2.0, -1.0, 0.0, 1.0, 2.0];
     const STARTS: [f64; 7] = [-2.0, -1.0, -0.0, 0.0, 0.5, 1.0, 2.0];
-    const EPS: [f64; 3] = [0.25, 1.0, 2.0];
-    const LIMITS: [u64; 5] = [0, 1, 2, 3, 30];
+    const EQUAL: [[f64; 2]; 3] = [[0.25, 0.25], [1.0, 1.0], [2.0, 2.0]];
+    const DIFFERENT: [[f64; 2]; 4] = [[0.25, 1.0], [1.0, 0.25], [0.25, 2.0], [2.0, 0.25]];
     let polynomials = (1..=3).flat_map(|n: u32| {
         (0..5usize.pow(n)).map(move |k| (0..n).map(|i| COEFFICIENTS[k / 5usize.pow(i) % 5]).collect::<Vec<f64>>())
     });
@@ -549,11 +596,14 @@ pub fn small() -> impl Iterator<Item = Call> {
         (1..=5u8).flat_map(move |method| {
             let coefficients = coefficients.clone();
             let count = starts(method);
-            (0..STARTS.len().pow(count as u32) * EPS.len() * LIMITS.len()).map(move |k| {
-                let (limit, k) = (LIMITS[k % 5], k / 5);
-                let (eps, k) = (EPS[k % 3], k / 3);
-                let starts = [STARTS[k % 7], STARTS[k / 7]][..count].to_vec();
-                Call { method, coefficients: coefficients.clone(), starts, eps, limit }
+            (0..STARTS.len().pow(count as u32)).flat_map(move |k| {
+                let equal = EQUAL.into_iter().flat_map(|pair| [0, 1, 2, 3, 30].map(|limit| (pair, limit)));
+                let different = DIFFERENT.into_iter().flat_map(|pair| [1, 30].map(|limit| (pair, limit)));
+                let (coefficients, starts) = (coefficients.clone(), [STARTS[k % 7], STARTS[k / 7]][..count].to_vec());
+                equal.chain(different).map(move |([value_tolerance, point_tolerance], limit)| {
+                    let (coefficients, starts) = (coefficients.clone(), starts.clone());
+                    Call { method, coefficients, starts, value_tolerance, point_tolerance, limit }
+                })
             })
         })
     })

@@ -53,6 +53,7 @@ fn compare(words: &[&str]) {
     parts::short_buffers();
     parts::as_they_are(&records);
     parts::one_byte_changes(&records, changed);
+    parts::other_heads(&records);
     parts::damaged(count, seed, &records);
     parts::broken_calls(seed);
     parts::what_follows(seed, &records);

@@ -1,7 +1,7 @@
 // One call on the published methods, with everything about it that can be seen from outside.
 
 use crate::call::{Call, BRENT, ILLINOIS, NEWTON, SECANT};
-use crate::watch::{forget_log, read_log, Follower, Recorder, Seen, Tallies, Test, Watched};
+use crate::watch::{forget_log, read_log, Follower, Recorder, Rules, Seen, Tallies, Test, Watched};
 use roots::{find_root_brent, find_root_newton_raphson, find_root_regula_falsi, find_root_secant};
 use roots::{Interval, Polynom, Sample, SearchError, SimpleConvergency};
 use std::cell::RefCell;
@@ -22,8 +22,9 @@ pub fn number(error: SearchError) -> u8 {
     }
 }
 
-fn rule(call: &Call) -> SimpleConvergency<f64> {
-    SimpleConvergency { eps: call.eps, max_iter: call.limit as usize }
+fn rules(call: &Call) -> Rules {
+    let rule = |eps: f64| SimpleConvergency { eps, max_iter: call.limit as usize };
+    Rules { value: rule(call.value_tolerance), point: rule(call.point_tolerance) }
 }
 
 // The polynomial search is lent a ready interval: the smaller start first, equal ones as given.
@@ -48,13 +49,13 @@ fn polynomial_search(call: &Call, seen: &RefCell<Seen>) -> Result<f64, SearchErr
     let sample = |s: &Sample<f64>| Sample { x: Watched(s.x), y: Watched(s.y) };
     let mut lent = Interval { begin: sample(&begin), end: sample(&end) };
     forget_log();
-    let mut follower = Follower { rule: rule(call), coefficients: a.len(), seen };
+    let mut follower = Follower { rules: rules(call), coefficients: a.len(), seen };
     let followed = watched.as_slice().find_root(&mut lent, &mut follower);
     read_log(a.len(), &mut seen.borrow_mut());
 
     let steps = seen.borrow().tallies.steps;
     let mut lent = Interval { begin, end };
-    let result = a.find_root(&mut lent, &mut Recorder { rule: rule(call), seen });
+    let result = a.find_root(&mut lent, &mut Recorder { rules: rules(call), seen });
     let same = match (&followed, &result) {
         (Ok(p), Ok(q)) => p.0.to_bits() == q.to_bits() || (p.0.is_nan() && q.is_nan()),
         (Err(p), Err(q)) => p == q,
@@ -79,7 +80,7 @@ pub fn run(call: &Call, keep: bool) -> Run {
         seen.borrow_mut().derivative(d);
         d
     };
-    let mut stop = Recorder { rule: rule(call), seen: &seen };
+    let mut stop = Recorder { rules: rules(call), seen: &seen };
     let starts = call.starts.as_slice();
     let result = match call.method {
         BRENT => find_root_brent(starts[0], starts[1], value, &mut stop),

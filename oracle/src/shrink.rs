@@ -1,4 +1,4 @@
-// Makes a call that shows a difference smaller: fewer coefficients, simpler numbers, a smaller limit.
+// Makes a call that shows a difference smaller: fewer coefficients, simpler numbers, one eps for both tolerances, a smaller limit.
 
 use crate::call::Call;
 use crate::families::power_of_two;
@@ -43,7 +43,9 @@ fn simpler(x: f64) -> Vec<f64> {
 
 fn key(call: &Call) -> (usize, u64, u64) {
     let numbers = call.coefficients.iter().chain(&call.starts).map(|x| size(*x)).sum::<u64>();
-    (call.coefficients.len(), numbers + size(call.eps), call.limit)
+    // Two equal tolerances are one number to look at.
+    let point = if call.has_one_eps() { 0 } else { 1 + size(call.point_tolerance) };
+    (call.coefficients.len(), numbers + size(call.value_tolerance) + point, call.limit)
 }
 
 fn candidates(call: &Call) -> Vec<Call> {
@@ -67,8 +69,12 @@ fn candidates(call: &Call) -> Vec<Call> {
             list.push(other);
         }
     }
-    for eps in simpler(call.eps).into_iter().chain([1.0 / 1024.0, power_of_two(-300)]) {
-        list.push(Call { eps, ..call.clone() });
+    for tolerance in call.tolerances() {
+        for simple in simpler(tolerance).into_iter().chain([tolerance, 1.0 / 1024.0, power_of_two(-300)]) {
+            list.push(call.with_eps(simple));
+            list.push(Call { value_tolerance: simple, ..call.clone() });
+            list.push(Call { point_tolerance: simple, ..call.clone() });
+        }
     }
     for limit in [0, 1, 2, 3, 4, 5, 10, call.limit / 2, call.limit.saturating_sub(1)] {
         list.push(Call { limit, ..call.clone() });

@@ -3,7 +3,7 @@
 
 use crate::call::{Call, METHODS, NEWTON};
 use crate::families::{self, neighbour, power_of_two, NAMES};
-use crate::{asked_for, difference, known, listed, model, parts, print_table, Counts, KNOWN};
+use crate::{asked_for, difference, known, listed, model, parts, print_table, refused_at_once, Counts, KNOWN};
 use std::collections::{BTreeMap, HashSet};
 
 // So many calls of all families are looked at; those to be stored are picked from them.
@@ -122,17 +122,32 @@ fn counts(looked: &Looked, method: u8) -> Vec<Call> {
     calls
 }
 
-fn tolerances(looked: &Looked, method: u8) -> Vec<Call> {
+// No tolerances: what lies below the least one, what is not above zero and what is not finite.
+fn bad_tolerances() -> impl Iterator<Item = f64> {
     let least = power_of_two(-300);
-    let infinite = f64::INFINITY;
+    let small = [neighbour(least, -1), power_of_two(-301), f64::MIN_POSITIVE, LEAST_SUBNORMAL, 0.0, -0.0, -least, -1.0];
     let not_numbers = [0x7ff8_0000_0000_0000, 0xfff0_0000_0000_0001].map(f64::from_bits);
-    let passing = [least, neighbour(least, 1), f64::MAX];
-    let refused = [neighbour(least, -1), power_of_two(-301), f64::MIN_POSITIVE, LEAST_SUBNORMAL, 0.0, -0.0, -least, -1.0];
-    let with = |call: &Call| {
-        let all = passing.into_iter().chain(refused).chain([infinite, -infinite]).chain(not_numbers);
-        all.map(|eps| Call { eps, ..call.clone() }).collect::<Vec<_>>()
-    };
-    looked.plain(method).take(2).flat_map(with).collect()
+    small.into_iter().chain([f64::INFINITY, -f64::INFINITY]).chain(not_numbers)
+}
+
+// Both tolerances at an edge, each alone, and two as far and as little apart as there is, both ways. The first call gets bad ones too.
+fn tolerances(looked: &Looked, method: u8) -> Vec<Call> {
+    let (least, largest) = (power_of_two(-300), f64::MAX);
+    let mut calls = Vec::new();
+    for (number, call) in looked.plain(method).take(2).enumerate() {
+        let eps = call.value_tolerance;
+        let bad = bad_tolerances().take(if number == 0 { usize::MAX } else { 0 });
+        for edge in [least, neighbour(least, 1), largest].into_iter().chain(bad) {
+            calls.push(call.with_eps(edge));
+            calls.push(Call { value_tolerance: edge, ..call.with_eps(eps) });
+            calls.push(Call { point_tolerance: edge, ..call.with_eps(eps) });
+        }
+        for (p, q) in [(least, largest), (eps, neighbour(eps, 1)), (eps, eps * 1024.0)] {
+            calls.push(Call { value_tolerance: p, point_tolerance: q, ..call.clone() });
+            calls.push(Call { value_tolerance: q, point_tolerance: p, ..call.clone() });
+        }
+    }
+    calls
 }
 
 // Reversed and equal starts, both zeros and the least numbers beside them.
@@ -160,7 +175,7 @@ fn starts(looked: &Looked, method: u8) -> Vec<Call> {
     calls
 }
 
-// Every reason of 1 to 5, every two of them, and all.
+// Every reason of 1 to 5, every two of them, and all; 4 by each tolerance.
 fn reasons(looked: &Looked, method: u8) -> Vec<Call> {
     let Some(plain) = looked.plain(method).next() else { return Vec::new() };
     let mut calls = Vec::new();
@@ -168,7 +183,7 @@ fn reasons(looked: &Looked, method: u8) -> Vec<Call> {
         if set.count_ones() > 2 && set != 31 {
             continue;
         }
-        let mut call = Call { eps: 0.25, limit: 9, ..plain.clone() };
+        let mut call = Call { limit: 9, ..plain.with_eps(0.25) };
         let has = |refusal: u32| set & (1 << (refusal - 1)) != 0;
         if has(1) {
             call = with_count(&call, 17);
@@ -179,11 +194,12 @@ fn reasons(looked: &Looked, method: u8) -> Vec<Call> {
         if has(3) {
             *call.starts.last_mut().unwrap() = f64::from_bits(0x7ff8_0000_0000_0000);
         }
-        if has(4) {
-            call.eps = -0.25;
-        }
         if has(5) {
             call.limit = 401;
+        }
+        if has(4) {
+            calls.push(Call { value_tolerance: -0.25, ..call.clone() });
+            call.point_tolerance = -0.25;
         }
         calls.push(call);
     }
@@ -224,7 +240,7 @@ fn groups(count: usize, seed: u64) -> Vec<Group> {
     let edges: [(&str, Edge); 5] = [
         ("limits around 0 and 400", limits),
         ("counts of coefficients", counts),
-        ("eps around 2^-300 and other edges of it", tolerances),
+        ("tolerances around 2^-300 and other edges of them", tolerances),
         ("reversed and equal starts, both zeros", starts),
         ("reasons to refuse at once, one, two or all", reasons),
     ];
@@ -277,8 +293,17 @@ fn traits(call: &Call) -> Vec<String> {
     note("a start +0", call.starts.iter().any(|x| x.to_bits() == 0));
     note("a start -0", call.starts.iter().any(|x| x.to_bits() == 1 << 63));
     note("a coefficient -0", call.coefficients.iter().any(|x| x.to_bits() == 1 << 63));
-    note("eps 2^-300", call.eps == power_of_two(-300));
-    note("eps just below 2^-300", call.eps == neighbour(power_of_two(-300), -1));
+    let both_at = |edge: f64| call.value_tolerance == edge && call.point_tolerance == edge;
+    note("both tolerances 2^-300", both_at(power_of_two(-300)));
+    note("both tolerances just below 2^-300", both_at(neighbour(power_of_two(-300), -1)));
+    for (name, tolerance, other) in
+        [("value", call.value_tolerance, call.point_tolerance), ("point", call.point_tolerance, call.value_tolerance)]
+    {
+        let (least, alone) = (power_of_two(-300), other >= power_of_two(-300) && other != tolerance);
+        note(&format!("{name} tolerance 2^-300 alone"), tolerance == least && alone);
+        note(&format!("{name} tolerance just below alone"), tolerance == neighbour(least, -1) && alone);
+        note(&format!("a larger {name} tolerance"), refused_at_once(call).is_none() && tolerance > other);
+    }
     if let [p, q] = call.starts.as_slice() {
         note("reversed starts", p > q);
         note("equal starts", p == q);
@@ -294,19 +319,23 @@ fn wanted() -> Vec<(String, bool)> {
     for name in ["a subnormal coefficient", "a subnormal start", "a number of 2^1000 or more", "a start +0", "a start -0"] {
         list.push((name.to_string(), true));
     }
-    for name in ["a coefficient -0", "eps 2^-300", "eps just below 2^-300"] {
-        list.push((name.to_string(), true));
+    list.push(("a coefficient -0".to_string(), true));
+    list.extend(["both tolerances 2^-300", "both tolerances just below 2^-300"].map(|name| (name.to_string(), true)));
+    for name in ["value", "point"] {
+        list.push((format!("{name} tolerance 2^-300 alone"), true));
+        list.push((format!("{name} tolerance just below alone"), true));
+        list.push((format!("a larger {name} tolerance"), true));
     }
     list.extend(["reversed starts", "equal starts", "both zeros as starts"].map(|name| (name.to_string(), false)));
     list
 }
 
 fn print_rows(head: &str, rows: &[(String, [u64; 5])]) {
-    print!("{head:30}");
+    print!("{head:34}");
     METHODS.iter().for_each(|name| print!("{name:>19}"));
     println!();
     for (name, counts) in rows {
-        print!("{name:30}");
+        print!("{name:34}");
         counts.iter().for_each(|n| print!("{n:>19}"));
         println!();
     }
@@ -321,6 +350,7 @@ pub fn store(count: usize, seed: u64, folder: &str) {
          # rust: kind, numbers, steps and counts are those of the watched run of crate roots 0.0.8, but that of Brent's\n\
          # values its steps are taken away: the Rust works out the kept end's value again in each step, so where it\n\
          # evaluated v times in s completed steps, v - s is stored. Only that the mark is 0 comes from document 01.\n\
+         # Its rule for values has the value tolerance and its rule for points the point tolerance.\n\
          # document: refusals 1 to 5 and 9 and marked answers, which the Rust lacks.\n"
     );
     let mut endings: BTreeMap<(u64, u64, bool), [u64; 5]> = BTreeMap::new();
@@ -343,7 +373,7 @@ pub fn store(count: usize, seed: u64, folder: &str) {
             let method = call.method as usize - 1;
             let (kind, _, mark) = ending(call);
             endings.entry((kind, mark, rust)).or_default()[method] += 1;
-            counts[method].add(&answer);
+            counts[method].add(call, &answer);
             for name in traits(call) {
                 seen.entry(name).or_default()[method] += 1;
             }

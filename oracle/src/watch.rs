@@ -57,20 +57,38 @@ impl Seen {
     }
 }
 
-// Asks the crate's own SimpleConvergency and notes question and answer.
+// Two of the crate's own rules, one for values and one for points. Both have the limit.
+pub struct Rules {
+    pub value: SimpleConvergency<f64>,
+    pub point: SimpleConvergency<f64>,
+}
+
+impl Convergency<f64> for Rules {
+    fn is_root_found(&mut self, y: f64) -> bool {
+        self.value.is_root_found(y)
+    }
+    fn is_converged(&mut self, p: f64, q: f64) -> bool {
+        self.point.is_converged(p, q)
+    }
+    fn is_iteration_limit_reached(&mut self, iter: usize) -> bool {
+        self.value.is_iteration_limit_reached(iter)
+    }
+}
+
+// Asks the rules and notes question and answer.
 pub struct Recorder<'a> {
-    pub rule: SimpleConvergency<f64>,
+    pub rules: Rules,
     pub seen: &'a RefCell<Seen>,
 }
 
 impl Convergency<f64> for Recorder<'_> {
     fn is_root_found(&mut self, y: f64) -> bool {
-        let held = self.rule.is_root_found(y);
+        let held = self.rules.is_root_found(y);
         self.seen.borrow_mut().note(Test::Found { y, held });
         held
     }
     fn is_converged(&mut self, p: f64, q: f64) -> bool {
-        let held = self.rule.is_converged(p, q);
+        let held = self.rules.is_converged(p, q);
         let mut seen = self.seen.borrow_mut();
         seen.check(p);
         seen.check(q);
@@ -78,7 +96,7 @@ impl Convergency<f64> for Recorder<'_> {
         held
     }
     fn is_iteration_limit_reached(&mut self, iter: usize) -> bool {
-        let held = self.rule.is_iteration_limit_reached(iter);
+        let held = self.rules.is_iteration_limit_reached(iter);
         let mut seen = self.seen.borrow_mut();
         seen.tallies.steps = iter as u64;
         seen.note(Test::Limit { iter, held });
@@ -192,22 +210,22 @@ impl FloatType for Watched {
 
 // The stop tests of the watched run. The log is read out at every step, so it stays short.
 pub struct Follower<'a> {
-    pub rule: SimpleConvergency<f64>,
+    pub rules: Rules,
     pub coefficients: usize,
     pub seen: &'a RefCell<Seen>,
 }
 
 impl Convergency<Watched> for Follower<'_> {
     fn is_root_found(&mut self, y: Watched) -> bool {
-        self.rule.is_root_found(y.0)
+        self.rules.is_root_found(y.0)
     }
     fn is_converged(&mut self, p: Watched, q: Watched) -> bool {
-        self.rule.is_converged(p.0, q.0)
+        self.rules.is_converged(p.0, q.0)
     }
     fn is_iteration_limit_reached(&mut self, iter: usize) -> bool {
         read_log(self.coefficients, &mut self.seen.borrow_mut());
         self.seen.borrow_mut().tallies.steps = iter as u64;
-        self.rule.is_iteration_limit_reached(iter)
+        self.rules.is_iteration_limit_reached(iter)
     }
 }
 

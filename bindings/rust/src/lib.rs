@@ -10,7 +10,7 @@
 //! assert!((found.root - 1.0).abs() < 1e-15);
 //! ```
 //!
-//! A plain `f64` is eps with limit 30, as in roots:
+//! A plain `f64` is eps with limit 30, as in roots; one eps is the tolerance of values and of points:
 //!
 //! ```
 //! use chhorlaneak_roots::{find_root_newton_raphson, Reason};
@@ -18,6 +18,17 @@
 //! let refused = find_root_newton_raphson(0f64, &[0.0, 1.0], &mut 1e-3f64).unwrap_err();
 //! assert_eq!(refused.number, 7);
 //! println!("{refused}");
+//! ```
+//!
+//! Values and points that are measured on separate scales have a tolerance each:
+//!
+//! ```
+//! use chhorlaneak_roots::{find_root_newton_raphson, Reason, TwoTolerances};
+//!
+//! // a strip with the density (x^3 + 100x^2) / 6,000,000 at x mm: where it is 0.5, to 0.001 of density, or to 0.01 mm
+//! let mut convergency = TwoTolerances { value_tolerance: 6000.0, point_tolerance: 0.01, max_iter: 30 };
+//! let found = find_root_newton_raphson(100f64, &[100.0, 0.0, -3e6], &mut convergency).unwrap();
+//! assert_eq!((found.root, found.reason), (117.5, Reason::ByValue { value: 2859.375 }));
 //! ```
 //!
 //! A search goes on file as a [`Record`], whose bytes any machine reads back.
@@ -39,7 +50,8 @@ extern "C" {
         method: u64,
         first: f64,
         second: f64,
-        eps: f64,
+        value_tolerance: f64,
+        point_tolerance: f64,
         limit: u64,
         numbers: *mut f64,
         tallies: *mut u64,
@@ -48,8 +60,10 @@ extern "C" {
 
 /// When a search may stop: how close is close enough, and how many steps at most.
 pub trait Convergency {
-    /// The precision for both axes.
-    fn eps(&self) -> f64;
+    /// A value below this in size counts as zero.
+    fn value_tolerance(&self) -> f64;
+    /// Two points that are closer than this count as one.
+    fn point_tolerance(&self) -> f64;
     /// The greatest number of steps.
     fn limit(&self) -> u64;
 }
@@ -64,7 +78,10 @@ pub struct SimpleConvergency {
 }
 
 impl Convergency for SimpleConvergency {
-    fn eps(&self) -> f64 {
+    fn value_tolerance(&self) -> f64 {
+        self.eps
+    }
+    fn point_tolerance(&self) -> f64 {
         self.eps
     }
     fn limit(&self) -> u64 {
@@ -72,9 +89,35 @@ impl Convergency for SimpleConvergency {
     }
 }
 
-/// A plain eps has limit 30.
+/// A tolerance for each axis, and the greatest number of steps. roots has no such type.
+#[derive(Debug, Clone, Copy, PartialEq)]
+pub struct TwoTolerances {
+    /// Precision for the Y axis: a value below this in size counts as zero.
+    pub value_tolerance: f64,
+    /// Precision for the X axis: two points that are closer than this count as one.
+    pub point_tolerance: f64,
+    /// Maximum number of steps.
+    pub max_iter: usize,
+}
+
+impl Convergency for TwoTolerances {
+    fn value_tolerance(&self) -> f64 {
+        self.value_tolerance
+    }
+    fn point_tolerance(&self) -> f64 {
+        self.point_tolerance
+    }
+    fn limit(&self) -> u64 {
+        self.max_iter as u64
+    }
+}
+
+/// A plain eps is both tolerances, with limit 30.
 impl Convergency for f64 {
-    fn eps(&self) -> f64 {
+    fn value_tolerance(&self) -> f64 {
+        *self
+    }
+    fn point_tolerance(&self) -> f64 {
         *self
     }
     fn limit(&self) -> u64 {
@@ -98,12 +141,12 @@ pub struct Tally {
 /// Why a root was accepted.
 #[derive(Debug, Clone, Copy, PartialEq)]
 pub enum Reason {
-    /// The computed value at the root is below eps in size.
+    /// The computed value at the root is below the value tolerance in size.
     ByValue {
         /// That value.
         value: f64,
     },
-    /// The computed difference of two points is below eps in size.
+    /// The computed difference of two points is below the point tolerance in size.
     ByWidth {
         /// The first of the two points.
         p: f64,
@@ -148,7 +191,7 @@ impl Refusal {
             1 => "no coefficients, or more than 16",
             2 => "a coefficient isn't finite",
             3 => "a start isn't finite",
-            4 => "eps isn't finite or is below 2^-300",
+            4 => "a tolerance isn't finite or is below 2^-300",
             5 => "the limit is above 400",
             6 => "Initial values do not bracket zero",
             7 => "The algorithm cannot continue from the point where the derivative is zero",
@@ -179,7 +222,8 @@ fn search(method: u64, first: f64, second: f64, a: &[f64], convergency: &mut dyn
             method,
             first,
             second,
-            convergency.eps(),
+            convergency.value_tolerance(),
+            convergency.point_tolerance(),
             convergency.limit(),
             numbers.as_mut_ptr(),
             counts.as_mut_ptr(),

@@ -6,12 +6,14 @@ use std::fmt;
 // Nothing checks these declarations against the proved source: they say what include/roots.h says.
 extern "C" {
     fn roots_record_write(
+        record_kind: u64,
         coefficients: *const f64,
         count: usize,
         method: u64,
         first: f64,
         second: f64,
-        eps: f64,
+        value_tolerance: f64,
+        point_tolerance: f64,
         limit: u64,
         kind: u64,
         numbers: *const f64,
@@ -150,13 +152,17 @@ impl Error for RecordError {}
 /// # Ok::<(), chhorlaneak_roots::RecordError>(())
 /// ```
 ///
-/// Two records are equal where they hold the same bits: 0.0 and -0.0 differ, and a NaN equals itself.
+/// Two records are equal where they are of one kind and hold the same bits: 0.0 and -0.0 differ, and a NaN equals itself.
 #[derive(Clone, Copy)]
 pub struct Record {
+    /// 2, or 1 where an older program wrote it: that kind has one tolerance for values and points. A record is written in its own kind.
+    pub kind: u8,
     /// The method, with its starts.
     pub method: Method,
-    /// The precision of the call.
-    pub eps: f64,
+    /// The value tolerance of the call.
+    pub value_tolerance: f64,
+    /// The point tolerance of the call; in kind 1 it has the bits of the value tolerance.
+    pub point_tolerance: f64,
     /// The greatest number of steps of the call.
     pub limit: u64,
     /// What the call gave back.
@@ -175,9 +181,12 @@ struct FlatAnswer {
 
 impl Record {
     /// No record has more bytes, so a buffer of this length always suffices.
-    pub const LONGEST: usize = 256;
+    pub const LONGEST: usize = 268;
 
-    /// The record of a call and its answer. More than 16 coefficients are refused here, all else by `write`.
+    /// The kind that `new` makes.
+    pub const NEWEST: u8 = 2;
+
+    /// The record of a call and its answer, of the newest kind. More than 16 coefficients are refused here, all else by `write`.
     pub fn new(
         method: Method,
         coefficients: &[f64],
@@ -187,7 +196,16 @@ impl Record {
         let count = coefficients.len();
         let mut held = [0.0; MOST_COEFFICIENTS];
         held.get_mut(..count).ok_or(RecordError::NoRecord)?.copy_from_slice(coefficients);
-        Ok(Record { method, eps: convergency.eps(), limit: convergency.limit(), answer, coefficients: held, count })
+        Ok(Record {
+            kind: Record::NEWEST,
+            method,
+            value_tolerance: convergency.value_tolerance(),
+            point_tolerance: convergency.point_tolerance(),
+            limit: convergency.limit(),
+            answer,
+            coefficients: held,
+            count,
+        })
     }
 
     /// The coefficients of the call.
@@ -197,8 +215,9 @@ impl Record {
 
     /// Writes the record to the start of a buffer, and gives its length. What is behind it stays.
     ///
-    /// A call that refusals 1 to 5 answer, a number that isn't finite, a refusal other than 6 to 9 and a mark above 2
-    /// are [`RecordError::NoRecord`]; then too short a buffer is [`RecordError::NoRoom`]. Either leaves all bytes as they were.
+    /// A kind other than 1 and 2, kind 1 with two different tolerances, a call that refusals 1 to 5 answer, a number that isn't
+    /// finite, a refusal other than 6 to 9 and a mark above 2 are [`RecordError::NoRecord`]; then too short a buffer is
+    /// [`RecordError::NoRoom`]. Either leaves all bytes as they were.
     pub fn write(&self, bytes: &mut [u8]) -> Result<usize, RecordError> {
         let (method, first, second) = self.method.flat();
         let a = self.coefficients();
@@ -208,12 +227,14 @@ impl Record {
         // another, since the bytes are lent to be changed, and nothing is kept.
         let refused = unsafe {
             roots_record_write(
+                u64::from(self.kind),
                 a.as_ptr(),
                 a.len(),
                 method,
                 first,
                 second,
-                self.eps,
+                self.value_tolerance,
+                self.point_tolerance,
                 self.limit,
                 answer.kind,
                 answer.numbers.as_ptr(),
@@ -231,10 +252,10 @@ impl Record {
 
     /// Reads the record at the start of a buffer, and gives its length too. What is behind it is not looked at.
     ///
-    /// Whatever reads is written back as the same bytes.
+    /// Both kinds are read, and whatever reads is written back as the same bytes.
     pub fn read(bytes: &[u8]) -> Result<(Record, usize), RecordError> {
-        let (mut coefficients, mut points, mut numbers) = ([0.0; MOST_COEFFICIENTS], [0.0; 3], [0.0; 3]);
-        let (mut tallies, mut words) = ([0u64; 4], [0u64; 5]);
+        let (mut coefficients, mut points, mut numbers) = ([0.0; MOST_COEFFICIENTS], [0.0; 4], [0.0; 3]);
+        let (mut tallies, mut words) = ([0u64; 4], [0u64; 6]);
         // SAFETY: the pointers are to live memory of the lengths that the function is told or writes; none overlaps another,
         // and nothing is kept.
         let refused = unsafe {
@@ -251,11 +272,12 @@ impl Record {
         if refused != 0 {
             return Err(RecordError::of(refused));
         }
-        let [first, second, eps] = points;
-        let [length, method, count, limit, kind] = words;
+        let [first, second, value_tolerance, point_tolerance] = points;
+        let [length, method, count, limit, answer_kind, record_kind] = words;
+        let (kind, count) = (record_kind as u8, count as usize);
         let method = Method::of(method, first, second).ok_or(RecordError::NoRecord)?;
-        let answer = answer_of(kind, numbers, tallies);
-        Ok((Record { method, eps, limit, answer, coefficients, count: count as usize }, length as usize))
+        let answer = answer_of(answer_kind, numbers, tallies);
+        Ok((Record { kind, method, value_tolerance, point_tolerance, limit, answer, coefficients, count }, length as usize))
     }
 
     fn flat_answer(&self) -> FlatAnswer {
@@ -269,11 +291,12 @@ impl Record {
 }
 
 // All that a record holds, as bits; an unused place is zero.
-fn all_bits(record: &Record) -> ([u64; MOST_COEFFICIENTS], [u64; 6], [u64; 4], [u64; 4]) {
+fn all_bits(record: &Record) -> ([u64; MOST_COEFFICIENTS], [u64; 7], [u64; 5], [u64; 4]) {
     let (method, first, second) = record.method.flat();
     let FlatAnswer { kind, numbers: [n0, n1, n2], tallies } = record.flat_answer();
-    let doubles = [first, second, record.eps, n0, n1, n2].map(f64::to_bits);
-    (record.coefficients.map(f64::to_bits), doubles, [method, record.count as u64, record.limit, kind], tallies)
+    let doubles = [first, second, record.value_tolerance, record.point_tolerance, n0, n1, n2].map(f64::to_bits);
+    let words = [u64::from(record.kind), method, record.count as u64, record.limit, kind];
+    (record.coefficients.map(f64::to_bits), doubles, words, tallies)
 }
 
 impl PartialEq for Record {
@@ -287,9 +310,11 @@ impl Eq for Record {}
 impl fmt::Debug for Record {
     fn fmt(&self, f: &mut fmt::Formatter) -> fmt::Result {
         f.debug_struct("Record")
+            .field("kind", &self.kind)
             .field("method", &self.method)
             .field("coefficients", &self.coefficients())
-            .field("eps", &self.eps)
+            .field("value_tolerance", &self.value_tolerance)
+            .field("point_tolerance", &self.point_tolerance)
             .field("limit", &self.limit)
             .field("answer", &self.answer)
             .finish()

@@ -3,23 +3,38 @@ use chhorlaneak_roots::*;
 
 const PART: f64 = 1.0 / 1024.0;
 
-// W1: Brent on x^2 - 2 between 0 and 2, eps 1/1024, limit 1, refused with 8.
+// W1: Brent on x^2 - 2 between 0 and 2, both tolerances 1/1024, limit 1, refused with 8.
 // A double is its 64 bits: group k, from 0, holds bits 7k to 7k + 6.
 #[rustfmt::skip]
-const W1: [u8; 38] = [
+const W1: [u8; 49] = [
+    0x00, 0x02,                                                 // kind 2 of records
     0x01,                                                       // method 1
     0x02,                                                       // 2 coefficients
     0x00,                                                       // 0.0: no bit
     0x80, 0x80, 0x80, 0x80, 0x80, 0x80, 0x80, 0x80, 0xc0, 0x01, // -2.0, c000000000000000: bit 62 is 40 of group 8, bit 63 is 01 of group 9
     0x00,                                                       // from 0.0
     0x80, 0x80, 0x80, 0x80, 0x80, 0x80, 0x80, 0x80, 0x40,       // to 2.0, 4000000000000000: bit 62, and no group 9
-    0x80, 0x80, 0x80, 0x80, 0x80, 0x80, 0x80, 0xa8, 0x3f,       // eps, 3f50000000000000: bits 52 and 54 are 28 of group 7, bits 56 to 61 are 3f of group 8
+    0x80, 0x80, 0x80, 0x80, 0x80, 0x80, 0x80, 0xa8, 0x3f,       // value tolerance, 3f50000000000000: bits 52 and 54 are 28 of group 7, bits 56 to 61 are 3f of group 8
+    0x80, 0x80, 0x80, 0x80, 0x80, 0x80, 0x80, 0xa8, 0x3f,       // point tolerance, the same
     0x01,                                                       // limit 1
-    0x12,                                                       // kind 18: 10 plus refusal 8, which has no numbers
+    0x12,                                                       // kind 18 of answers: 10 plus refusal 8, which has no numbers
     0x01, 0x03, 0x00, 0x00,                                     // 1 step, 3 values, 0 derivatives, mark 0
 ];
-const AT_LIMIT: usize = 32;
-const AT_KIND: usize = 33;
+const AT_METHOD: usize = 2;
+const AT_VALUE_TOLERANCE: usize = 25;
+const AT_POINT_TOLERANCE: usize = 34;
+const AT_LIMIT: usize = 43;
+const AT_KIND: usize = 44;
+
+// The same search as a record of kind 1, which begins with the method and has one tolerance.
+#[rustfmt::skip]
+const OLD_W1: [u8; 38] = [
+    0x01, 0x02,
+    0x00, 0x80, 0x80, 0x80, 0x80, 0x80, 0x80, 0x80, 0x80, 0xc0, 0x01,
+    0x00, 0x80, 0x80, 0x80, 0x80, 0x80, 0x80, 0x80, 0x80, 0x40,
+    0x80, 0x80, 0x80, 0x80, 0x80, 0x80, 0x80, 0xa8, 0x3f,
+    0x01, 0x12, 0x01, 0x03, 0x00, 0x00,
+];
 
 fn rule(eps: f64, max_iter: usize) -> SimpleConvergency {
     SimpleConvergency { eps, max_iter }
@@ -46,7 +61,7 @@ fn written(record: &Record) -> Vec<u8> {
     bytes[..length].to_vec()
 }
 
-// The longest that there is: everything that may be negative is, and the counts are the greatest that a word holds.
+// The longest that there is: kind 2, everything that may be negative is, and the counts are the greatest that a word holds.
 fn longest() -> Record {
     let tally = Tally { steps: u64::MAX, values: u64::MAX, derivatives: u64::MAX, mark: 2 };
     let found = Found { root: -0.1, reason: Reason::ByWidth { p: -0.1, q: -0.1 }, tally };
@@ -64,7 +79,7 @@ fn recorded(method: Method, a: &[f64], mut rule: SimpleConvergency) -> Record {
     Record::new(method, a, &rule, answer).unwrap()
 }
 
-// Every method and every sort of answer as the search gives them, a short one and the longest.
+// Every method and every sort of answer as the search gives them, both kinds, two tolerances apart, a short one and the longest.
 fn searched() -> Vec<Record> {
     let a = [0.0, -2.0];
     let (from, to, eps) = (0.0, 2.0, 1e-12);
@@ -76,6 +91,8 @@ fn searched() -> Vec<Record> {
         recorded(Method::Polynom { from, to }, &a, rule(eps, 300)),
         recorded(Method::RegulaFalsi { from, to }, &[100.0, -150.0], rule(4.0, 10)),
         w1(),
+        with(|record| record.kind = 1),
+        with(|record| record.point_tolerance = 2.0),
         longest(),
     ]
 }
@@ -85,6 +102,49 @@ fn w1_by_hand() {
     assert_eq!(find_root_brent(0.0, 2.0, &[0.0, -2.0], &mut rule(PART, 1)), refused(8));
     assert_eq!(written(&w1()), W1);
     assert_eq!(Record::read(&W1), Ok((w1(), W1.len())));
+    assert_eq!((w1().kind, Record::NEWEST), (2, 2));
+}
+
+#[test]
+fn an_old_record() {
+    let (old, length) = Record::read(&OLD_W1).unwrap();
+    assert_eq!((old.kind, length), (1, OLD_W1.len()));
+    assert_eq!((old.value_tolerance, old.point_tolerance), (PART, PART));
+    assert_eq!(old, with(|record| record.kind = 1));
+    assert_ne!(old, w1());
+    assert_eq!(written(&old), OLD_W1);
+    let mut newer = old;
+    newer.kind = Record::NEWEST;
+    assert_eq!(written(&newer), W1);
+}
+
+#[test]
+fn tolerances_apart() {
+    let record = with(|record| record.point_tolerance = 2.0);
+    let two = [0x80, 0x80, 0x80, 0x80, 0x80, 0x80, 0x80, 0x80, 0x40];
+    let bytes = w1_with(AT_POINT_TOLERANCE, 9, &two);
+    assert_eq!(written(&record), bytes);
+    assert_eq!(Record::read(&bytes), Ok((record, bytes.len())));
+    assert_ne!(record, w1());
+    let turned = with(|record| record.value_tolerance = 2.0);
+    assert_eq!(written(&turned), w1_with(AT_VALUE_TOLERANCE, 9, &two));
+}
+
+#[test]
+fn kinds_without_a_record() {
+    for kind in (0..=u8::MAX).filter(|kind| ![1, 2].contains(kind)) {
+        has_no_record(with(|record| record.kind = kind));
+    }
+    let after = |x: f64| f64::from_bits(x.to_bits() + 1);
+    has_no_record(with(|record| (record.kind, record.value_tolerance) = (1, after(PART))));
+    has_no_record(with(|record| (record.kind, record.point_tolerance) = (1, after(PART))));
+    for kind in [&[0x00][..], &[0x01], &[0x03], &[0x04], &[0x82, 0x00], &[0x82, 0x01]] {
+        let bytes = w1_with(1, 1, kind);
+        assert_eq!(Record::read(&bytes), Err(RecordError::NoRecord), "{bytes:02x?}");
+    }
+    // kind 1 never begins with 0, and kind 2 never without
+    assert_eq!(Record::read(&[&[0x00, 0x01], &OLD_W1[..]].concat()), Err(RecordError::NoRecord));
+    assert_eq!(Record::read(&W1[AT_METHOD..]), Err(RecordError::NoRecord));
 }
 
 #[test]
@@ -112,9 +172,9 @@ fn what_was_written_reads_back() {
 fn newton_has_one_start() {
     let newton = with(|record| record.method = Method::NewtonRaphson { start: 2.0 });
     let bytes = written(&newton);
-    assert_eq!(bytes[0], 4);
-    assert_eq!(bytes[1..13], W1[1..13]);
-    assert_eq!(bytes[13..], W1[14..]);
+    assert_eq!(bytes[AT_METHOD], 4);
+    assert_eq!(bytes[AT_METHOD + 1..15], W1[AT_METHOD + 1..15]);
+    assert_eq!(bytes[15..], W1[16..]);
     assert_eq!(Record::read(&bytes), Ok((newton, W1.len() - 1)));
 }
 
@@ -157,10 +217,13 @@ fn too_little_room() {
 
 #[test]
 fn the_longest() {
-    // 1 and 1 byte for method and count, 10 for each of 16 coefficients and 2 starts, 9 for eps, which is not negative,
-    // 2 for the limit, 1 for the kind, 10 for each of 3 numbers and 3 counts, 1 for the mark.
-    assert_eq!(written(&longest()).len(), 1 + 1 + 16 * 10 + 2 * 10 + 9 + 2 + 1 + 3 * 10 + 3 * 10 + 1);
-    assert_eq!(written(&longest()).len(), 255);
+    // 2 bytes for the kind, 1 and 1 for method and count, 10 for each of 16 coefficients and 2 starts, 9 for each tolerance, which
+    // is not negative, 2 for the limit, 1 for the answer's kind, 10 for each of 3 numbers and 3 counts, 1 for the mark.
+    assert_eq!(written(&longest()).len(), 2 + 1 + 1 + 16 * 10 + 2 * 10 + 2 * 9 + 2 + 1 + 3 * 10 + 3 * 10 + 1);
+    assert_eq!(written(&longest()).len(), 266);
+    let mut old = longest();
+    old.kind = 1;
+    assert_eq!(written(&old).len(), 255);
 }
 
 fn found(root: f64, reason: Reason) -> Result<Found, Refusal> {
@@ -184,12 +247,15 @@ fn calls_without_a_record() {
         has_no_record(with(|record| record.method = Method::Secant { first: wrong, second: 0.0 }));
         has_no_record(with(|record| record.method = Method::Secant { first: 0.0, second: wrong }));
         has_no_record(with(|record| record.method = Method::NewtonRaphson { start: wrong }));
-        has_no_record(with(|record| record.eps = wrong));
     }
     let least = 2f64.powi(-300);
-    written(&with(|record| record.eps = least));
-    has_no_record(with(|record| record.eps = f64::from_bits(least.to_bits() - 1)));
-    has_no_record(with(|record| record.eps = -PART));
+    written(&with(|record| record.value_tolerance = least));
+    written(&with(|record| record.point_tolerance = least));
+    for wrong in [f64::NAN, f64::INFINITY, f64::from_bits(least.to_bits() - 1), -PART] {
+        has_no_record(with(|record| record.value_tolerance = wrong));
+        has_no_record(with(|record| record.point_tolerance = wrong));
+        has_no_record(with(|record| (record.kind, record.value_tolerance, record.point_tolerance) = (1, wrong, wrong)));
+    }
     written(&with(|record| record.limit = 400));
     has_no_record(with(|record| record.limit = 401));
     has_no_record(with(|record| record.limit = u64::MAX));
@@ -240,13 +306,15 @@ fn bytes_that_are_no_record() {
         (STEPS, 1, &eleven),
         (STEPS, 1, &[0x81, 0x00]),
         (STEPS, 1, &[0x80, 0x00]),
-        (0, 1, &[0x00]),
-        (0, 1, &[0x06]),
-        (1, 1, &[0x00]),
-        (1, 1, &[0x11]),
-        (2, 1, &infinity),
-        (13, 1, &infinity),
-        (23, 9, &infinity),
+        (AT_METHOD, 1, &[0x00]),
+        (AT_METHOD, 1, &[0x06]),
+        (AT_METHOD + 1, 1, &[0x00]),
+        (AT_METHOD + 1, 1, &[0x11]),
+        (AT_METHOD + 2, 1, &infinity),
+        (15, 1, &infinity),
+        (AT_VALUE_TOLERANCE, 9, &infinity),
+        (AT_POINT_TOLERANCE, 9, &infinity),
+        (AT_POINT_TOLERANCE, 9, &[0x00]),
         (AT_LIMIT, 1, &[0x91, 0x03]),
         (AT_KIND, 1, &[0x02]),
         (AT_KIND, 1, &[0x0a]),
@@ -289,6 +357,7 @@ fn equal_by_bits() {
 fn in_words() {
     assert_eq!((RecordError::NoRoom.number(), RecordError::NoRecord.number()), (10, 11));
     assert_eq!(RecordError::NoRoom.to_string(), "refusal 10: the buffer is too short for the record");
-    let expected = "Record { method: Brent { from: 0.0, to: 2.0 }, coefficients: [0.0, -2.0], eps: 0.0009765625, limit: 1, ";
+    let expected = "Record { kind: 2, method: Brent { from: 0.0, to: 2.0 }, coefficients: [0.0, -2.0], \
+                    value_tolerance: 0.0009765625, point_tolerance: 0.0009765625, limit: 1, ";
     assert!(format!("{:?}", w1()).starts_with(expected));
 }

@@ -63,7 +63,7 @@ guess-held s = cond-fits binary64 (threeValues s) _ _ (add-fits binary64 _ _) (s
 ruleset apart = (opposite-not-same, product-below)
 
 -- ---- the method
-module _ (a : List Float) (stop : StopRule) (good : above (stop .eps) ≡ true) (from to : Float) (from-double : Double from) (to-double : Double to) where
+module _ (a : List Float) (stop : StopRule) (good : above (stop .tolerances .value) ≡ true) (from to : Float) (from-double : Double from) (to-double : Double to) where
   abbrev Stands : ℕ → Brent → List Event → Type 0
   Stands n s h = Bracketing a stop from to n (pairOf s) h
 

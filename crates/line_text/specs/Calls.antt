@@ -6,6 +6,8 @@ use mathlib.Core.Path.{_≡_}
 use lib.Dec.{ltb, eqb}
 use lib.ListN.{length, take, drop, getD}
 use lib.Ieee.{Float, nan, binary64, ofBits}
+use Rattle.simple_convergency.specs.Stop.{tolerancesOf}
+use Rattle.simple_convergency.specs.declared.Tolerances.{Tolerances}
 use Rattle.roots.specs.declared.Method.{Method}
 use Rattle.roots.specs.declared.Method.the-variants.{Brent, RegulaFalsi, Secant, NewtonRaphson, Polynom}
 use Rattle.line_text.specs.Digits.{decimalOf, wordOf}
@@ -81,26 +83,26 @@ methodOf m p q =
     (cond (eqb m 4) (NewtonRaphson p)
     (Polynom p q))))
 
--- ---- METHOD COUNT A0 .. START [START] EPS LIMIT
+-- ---- METHOD COUNT A0 .. START [START] VALUE_TOLERANCE POINT_TOLERANCE LIMIT
 
 pub data Asked : Type 0 where
-  call : List Float → Method → Float → ℕ → Asked
+  call : List Float → Method → Tolerances → ℕ → Asked
   no-call : Fault → Asked
 
--- behind the limit nothing may follow; a are the coefficients, n of them, the starts and eps
+-- behind the limit nothing may follow; a are the coefficients, n of them, the starts and the tolerances
 abbrev pub limited : ℕ → ℕ → List Float → Number → List ℕ → Asked
 limited m n a (Is l) t =
     cond (eqb (length (fieldOf t)) 0)
-    (call (take n a) (methodOf m (getD a n nan) (getD a (n + 1) nan)) (getD a (n + startCount m) nan) l)
+    (call (take n a) (methodOf m (getD a n nan) (getD a (n + 1) nan)) (tolerancesOf (getD a (n + startCount m) nan) (getD a (n + startCount m + 1) nan)) l)
     (no-call fault.Trailing)
 limited m n a Wrong t = no-call fault.Limit
 
 unfoldable pub withLimit : ℕ → ℕ → List Float → List ℕ → Asked
 withLimit m n a t = limited m n a (decimalOf (fieldOf t)) (restOf t)
 
--- n coefficients, the starts and eps
+-- n coefficients, the starts and the tolerances
 abbrev pub doubles : ℕ → ℕ → ℕ
-doubles m n = n + startCount m + 1
+doubles m n = n + startCount m + 2
 
 unfoldable pub withDoubles : ℕ → ℕ → List ℕ → Asked
 withDoubles m n t =
@@ -144,7 +146,7 @@ countOf (reading.Call c) = c .count
 countOf (reading.Wrong r) = 0
 
 abbrev pub askedBy : Reading → List Float → Asked
-askedBy (reading.Call c) a = call (take (c .count) a) (c .method) (c .eps) (c .limit)
+askedBy (reading.Call c) a = call (take (c .count) a) (c .method) (c .tolerances) (c .limit)
 askedBy (reading.Wrong r) a = no-call r
 
 pub record ReadAs (asked : Asked) (filled a : List Float) (r : Reading) : Type 0 where

@@ -3,6 +3,7 @@ use mathlib.Core.Bool.{true}
 use mathlib.Core.List.{[], _∷_}
 use mathlib.Core.Path.{_≡_, refl}
 use lib.Ieee.{Float, binary64, ofBits, ofFields, nan, inf}
+use Rattle.simple_convergency.specs.Stop.{tolerancesOf}
 use Rattle.roots.specs.declared.Method.the-variants.{Brent, NewtonRaphson}
 use Rattle.line_text.specs.Digits.{digitOf, numberFrom, decimalOf, wordOf}
 use Rattle.line_text.specs.Fields.{fieldOf, restOf}
@@ -69,18 +70,18 @@ written = (refl, refl, refl, refl, refl)
 
 -- ---- lines
 
--- x - 1 by Brent between 0 and 2, and by Newton from 0, which has one start
+-- x - 1 by Brent between 0 and 2, and by Newton from 0, which has one start; the value tolerance comes first
 lines :
-    (askedOf (bytes "1 1 bff0000000000000 0000000000000000 4000000000000000 3f50000000000000 2")
-    ≡ call (minusOne ∷ []) (Brent nought two) small 2)
-    × (askedOf (bytes "4 1 bff0000000000000 0000000000000000 3f50000000000000 2") ≡ call (minusOne ∷ []) (NewtonRaphson nought) small 2)
+    (askedOf (bytes "1 1 bff0000000000000 0000000000000000 4000000000000000 3f50000000000000 4000000000000000 2")
+    ≡ call (minusOne ∷ []) (Brent nought two) (tolerancesOf small two) 2)
+    × (askedOf (bytes "4 1 bff0000000000000 0000000000000000 4000000000000000 3f50000000000000 2") ≡ call (minusOne ∷ []) (NewtonRaphson nought) (tolerancesOf two small) 2)
 unfolding askedOf fieldOf restOf methodNumber withCount decimalOf numberFrom digitOf withDoubles startCount wordOf withLimit methodOf
 lines = (refl, refl)
 
--- a start that is missing, one too many, and a count that is no number
+-- a start or a tolerance that is missing, one too many, and a count that is no number
 no-lines :
-    (askedOf (bytes "1 1 bff0000000000000 0000000000000000 3f50000000000000 2") ≡ no-call fault.Number)
-    × (askedOf (bytes "4 1 bff0000000000000 0000000000000000 4000000000000000 3f50000000000000 2") ≡ no-call fault.Limit)
+    (askedOf (bytes "1 1 bff0000000000000 0000000000000000 3f50000000000000 3f50000000000000 2") ≡ no-call fault.Number)
+    × (askedOf (bytes "4 1 bff0000000000000 0000000000000000 4000000000000000 3f50000000000000 3f50000000000000 2") ≡ no-call fault.Limit)
     × (askedOf (bytes "4 -1 bff0000000000000") ≡ no-call fault.Count)
     × (askedOf (bytes "6") ≡ no-call fault.Method)
     × (askedOf [] ≡ no-call fault.Empty)

@@ -9,6 +9,7 @@ use lib.ListN.{length, take, drop, getD}
 use lib.Seq.{take-take, getD-take, length-take-le}
 use lib.Ieee.{Float, nan}
 use borrow.Author.Tests.{ne-eqb, lt-ltb, le-ltb}
+use Rattle.simple_convergency.specs.Stop.{tolerancesOf}
 use Rattle.roots.specs.declared.Method.{Method}
 use Rattle.line_text.specs.Digits.{decimalOf}
 use Rattle.line_text.specs.Fields.{fieldOf, restOf, Field}
@@ -44,7 +45,7 @@ module _ (s : List ℕ) (at m n : ℕ) (a : List Float) {f : Span} (j : Field s 
     pub limit-trailing : g .from < g .to → ReadAs (withLimit m n a (drop at s)) a a (reading.Wrong fault.Trailing)
     limit-trailing h = wrong (withLimit m n a (drop at s)) a a fault.Trailing (the-limit ∙ rw (q, some-field k h)) refl
 
-    pub limit-read : {method : Method} {k : ℕ} → g .to ≤ g .from → n + 3 ≤ length a → method ≡ methodOf m (getD a n nan) (getD a (n + 1) nan) → k ≡ startCount m → ReadAs (withLimit m n a (drop at s)) a a (reading.Call (record { method = method; count = n; eps = getD a (n + k) nan; limit = l }))
+    pub limit-read : {method : Method} {k : ℕ} → g .to ≤ g .from → n + 4 ≤ length a → method ≡ methodOf m (getD a n nan) (getD a (n + 1) nan) → k ≡ startCount m → ReadAs (withLimit m n a (drop at s)) a a (reading.Call (record { method = method; count = n; tolerances = tolerancesOf (getD a (n + k) nan) (getD a (n + k + 1) nan); limit = l }))
     limit-read h b x y = record { within = omega arith; is = rw (x, y) (sym (the-limit ∙ rw (q, no-field k h))); array = refl }
 
 -- ---- the doubles
@@ -58,7 +59,7 @@ some-starts m = go (eqb m 4)
     go false = omega arith
 
 module _ (m n : ℕ) (a : List Float) (k : ℕ) (t : List ℕ) where
-  -- only the first n + starts + 1 doubles count
+  -- only the first n + starts + 2 doubles count
   first-ones : k ≡ doubles m n → withLimit m n a t ≡ withLimit m n (take k a) t
   unfolding withLimit
   first-ones e = go (decimalOf (fieldOf t))
@@ -72,11 +73,14 @@ module _ (m n : ℕ) (a : List Float) (k : ℕ) (t : List ℕ) where
       at-next : getD (take k a) (n + 1) nan ≡ getD a (n + 1) nan
       at-next = getD-take k a (n + 1) nan (let h = some-starts m in omega arith)
 
-      at-eps : getD (take k a) (n + startCount m) nan ≡ getD a (n + startCount m) nan
-      at-eps = getD-take k a (n + startCount m) nan (omega arith)
+      at-value : getD (take k a) (n + startCount m) nan ≡ getD a (n + startCount m) nan
+      at-value = getD-take k a (n + startCount m) nan (omega arith)
+
+      at-point : getD (take k a) (n + startCount m + 1) nan ≡ getD a (n + startCount m + 1) nan
+      at-point = getD-take k a (n + startCount m + 1) nan (omega arith)
 
       go : (d : Number) → limited m n a d (restOf t) ≡ limited m n (take k a) d (restOf t)
-      go (Is l) = rw (coefficients, at-start, at-next, at-eps)
+      go (Is l) = rw (coefficients, at-start, at-next, at-value, at-point)
       go Wrong = refl
 
 module _ (s : List ℕ) (at k : ℕ) (before a : List Float) {w : Place} {p : ℕ} (g : Filled s at k before a w) (q : w ≡ place.At p) where
@@ -86,27 +90,27 @@ module _ (s : List ℕ) (at k : ℕ) (before a : List Float) {w : Place} {p : �
   pub filled-within : p ≤ length s
   filled-within = filled-to .within
 
-module _ (s : List ℕ) (at m n : ℕ) (before a : List Float) {k : ℕ} (e : k ≡ startCount m) {w : Place} (g : Filled s at (n + k + 1) before a w) where
+module _ (s : List ℕ) (at m n : ℕ) (before a : List Float) {k : ℕ} (e : k ≡ startCount m) {w : Place} (g : Filled s at (n + k + 2) before a w) where
   pub doubles-wrong : w ≡ place.Wrong → ReadAs (withDoubles m n (drop at s)) (filledWith (doubles m n) (drop at s) before) a (reading.Wrong fault.Number)
   unfolding withDoubles
   doubles-wrong q = wrong (withDoubles m n (drop at s)) (filledWith (doubles m n) (drop at s) before) a fault.Number (rw (← e, none)) (rw (← e) (g .array))
     where
-      none : allWords (n + k + 1) (drop at s) ≡ false
+      none : allWords (n + k + 2) (drop at s) ≡ false
       none = (rw q at g) .ends
 
-  module _ {p : ℕ} (q : w ≡ place.At p) (h : n ≤ 40) (c : k ≤ 2) (l : 43 ≤ length before) where
-    ends : EndsAt s at (n + k + 1) p
-    ends = filled-to s at (n + k + 1) before a g q
+  module _ {p : ℕ} (q : w ≡ place.At p) (h : n ≤ 40) (c : k ≤ 2) (l : 44 ≤ length before) where
+    ends : EndsAt s at (n + k + 2) p
+    ends = filled-to s at (n + k + 2) before a g q
 
-    front : take (n + k + 1) a ≡ doublesOf (n + k + 1) (drop at s)
-    front = ap (λ (b : List Float). take (n + k + 1) b) (g .array) ∙ filled-front (n + k + 1) (drop at s) before (omega arith) (ends .all)
+    front : take (n + k + 2) a ≡ doublesOf (n + k + 2) (drop at s)
+    front = ap (λ (b : List Float). take (n + k + 2) b) (g .array) ∙ filled-front (n + k + 2) (drop at s) before (omega arith) (ends .all)
 
     pub doubles-read : {r : Reading} → ReadAs (withLimit m n a (drop p s)) a a r → ReadAs (withDoubles m n (drop at s)) (filledWith (doubles m n) (drop at s) before) a r
     unfolding withDoubles
     doubles-read {r} x = record { within = x .within; is = x .is ∙ same; array = rw (← e) (g .array) }
       where
         same : withLimit m n a (drop p s) ≡ withDoubles m n (drop at s)
-        same = first-ones m n a (n + k + 1) (drop p s) (rw e) ∙ rw (← e, ends .all, front, ends .leaves)
+        same = first-ones m n a (n + k + 2) (drop p s) (rw e) ∙ rw (← e, ends .all, front, ends .leaves)
 
 -- ---- the count
 
@@ -173,7 +177,7 @@ reading-fixed asked filled a b (reading.Call c) (reading.Call d) x y = rw (count
     e : c .method ≡ d .method
     e = cc
 
-    f : c .eps ≡ d .eps
+    f : c .tolerances ≡ d .tolerances
     f = cc
 
     g : c .limit ≡ d .limit

@@ -55,7 +55,7 @@ module _ (s t : List ℕ) {filled : List Float} (a : List Float) {r : Reading} (
   unfolding replyTo
   replies = rw (k .is, w)
 
-  pub call-put : (before : List ℕ) (at : ℕ) {now : List ℕ} {p : ℕ} {c : Call} {o : Outcome} → r ≡ reading.Call c → o ≡ answer (take (c .count) a) (c .method) (c .eps) (c .limit) → Put before at (textOf o) now p → Put before at (replyTo s) now p
+  pub call-put : (before : List ℕ) (at : ℕ) {now : List ℕ} {p : ℕ} {c : Call} {o : Outcome} → r ≡ reading.Call c → o ≡ answer (take (c .count) a) (c .method) (c .tolerances) (c .limit) → Put before at (textOf o) now p → Put before at (replyTo s) now p
   call-put before at e f g = rw (← replies, e, ← f) g
 
   pub wrong-put : (before : List ℕ) (at : ℕ) {now : List ℕ} {p : ℕ} {why : Fault} → r ≡ reading.Wrong why → Put before at (faultText why) now p → Put before at (replyTo s) now p

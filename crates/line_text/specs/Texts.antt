@@ -70,7 +70,7 @@ faultText fault.Trailing = bytes "error trailing\n"
 -- ---- a line's reply
 
 abbrev pub replied : Asked → List ℕ
-replied (call a m eps limit) = textOf (answer a m eps limit)
+replied (call a m tolerances limit) = textOf (answer a m tolerances limit)
 replied (no-call why) = faultText why
 
 -- a line without the carriage return at its end

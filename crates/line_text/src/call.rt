@@ -1,4 +1,4 @@
-// A line taken apart: METHOD COUNT A0 .. START [START] EPS LIMIT.
+// A line taken apart: METHOD COUNT A0 .. START [START] VALUE_TOLERANCE POINT_TOLERANCE LIMIT.
 ghost use mathlib.Core.Path.{_≡_};
 ghost use Prim.Native.Nat.{_+_, _≤_};
 ghost use lib.ListN.{length, drop};
@@ -7,6 +7,7 @@ use crate::digits;
 use crate::fields;
 use digits::Number;
 use roots::Method;
+use simple_convergency::Tolerances;
 
 // Why a line is not a call.
 pub enum Fault {
@@ -22,7 +23,7 @@ pub enum Fault {
 pub struct Call {
     pub method: Method,
     pub count: usize,
-    pub eps: f64,
+    pub tolerances: Tolerances,
     pub limit: u64,
 }
 
@@ -98,7 +99,7 @@ fn method_of(m: u8, p: f64, q: f64) -> Method
 
 // The limit at `at`, behind which nothing may follow; a holds the doubles.
 fn with_limit(s: &[u8], at: usize, m: u8, count: usize, a: &[f64]) -> Reading
-    requires { ⌜ (at ≤ length (now s)) × (count + 3 ≤ length (now a)) ⌝ }
+    requires { ⌜ (at ≤ length (now s)) × (count + 4 ≤ length (now a)) ⌝ }
     ensures { λ r. ⌜ ReadAs (withLimit m count (now (a .entry)) (drop at (now (s .entry)))) (now (a .entry)) (now (a .entry)) r ⌝ }
 {
     let f = fields::next(s, at);
@@ -112,21 +113,23 @@ fn with_limit(s: &[u8], at: usize, m: u8, count: usize, a: &[f64]) -> Reading
         return Reading::Wrong(Fault::Trailing);
     }
     let method = method_of(m, a[count], a[count + 1]);
-    let eps = a[count + start_count(m)];
+    let behind = count + start_count(m);
+    let value = a[behind];
+    let point = a[behind + 1];
     Reading::Call(Call {
         method,
         count,
-        eps,
+        tolerances: Tolerances { value, point },
         limit,
     })
 }
 
-// The doubles at `at`: the coefficients, the starts and eps.
+// The doubles at `at`: the coefficients, the starts and the tolerances.
 fn with_doubles(s: &[u8], at: usize, m: u8, count: usize, a: &mut [f64]) -> Reading
-    requires { ⌜ (at ≤ length (now s)) × (count ≤ 40) × (43 ≤ length (now a)) ⌝ }
+    requires { ⌜ (at ≤ length (now s)) × (count ≤ 40) × (44 ≤ length (now a)) ⌝ }
     ensures { λ r. ⌜ ReadAs (withDoubles m count (drop at (now (s .entry)))) (filledWith (doubles m count) (drop at (now (s .entry))) (now (a .entry))) (now (a .exit)) r ⌝ }
 {
-    let k = count + start_count(m) + 1;
+    let k = count + start_count(m) + 2;
     match read_doubles(s, at, k, a) {
         Place::At(p) => with_limit(s, p, m, count, a),
         Place::Wrong => Reading::Wrong(Fault::Number),
@@ -135,7 +138,7 @@ fn with_doubles(s: &[u8], at: usize, m: u8, count: usize, a: &mut [f64]) -> Read
 
 // The count at `at`.
 fn with_count(s: &[u8], at: usize, m: u8, a: &mut [f64]) -> Reading
-    requires { ⌜ (at ≤ length (now s)) × (43 ≤ length (now a)) ⌝ }
+    requires { ⌜ (at ≤ length (now s)) × (44 ≤ length (now a)) ⌝ }
     ensures { λ r. ⌜ ReadAs (withCount m (drop at (now (s .entry)))) (countFills m (drop at (now (s .entry))) (now (a .entry))) (now (a .exit)) r ⌝ }
 {
     let f = fields::next(s, at);
@@ -150,9 +153,9 @@ fn with_count(s: &[u8], at: usize, m: u8, a: &mut [f64]) -> Reading
     with_doubles(s, to, m, count as usize, a)
 }
 
-// What the line asks for, with the coefficients in a, which holds up to 40 of them, two starts and eps.
+// What the line asks for, with the coefficients in a, which holds up to 40 of them, two starts and two tolerances.
 pub fn read(s: &[u8], a: &mut [f64]) -> Reading
-    requires { ⌜ 43 ≤ length (now a) ⌝ }
+    requires { ⌜ 44 ≤ length (now a) ⌝ }
     ensures { λ r. ⌜ ReadAs (askedOf (now (s .entry))) (lineFills (now (s .entry)) (now (a .entry))) (now (a .exit)) r ⌝ }
 {
     let f = fields::next(s, 0);

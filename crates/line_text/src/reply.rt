@@ -25,12 +25,13 @@ fn put_reply(s: &[u8], out: &mut [u8], at: usize) -> usize
     ensures { λ r. ⌜ r ≤ at + 156 ⌝ }
 {
     let n = trimmed_length(s);
-    let mut a = [0.0f64; 43];
+    let mut a = [0.0f64; 44];
     match call::read(&s[..n], &mut a) {
         Reading::Call(c) => {
             let count = c.count;
             let method = c.method;
-            let outcome = roots::search(&a[..count], method, c.eps, c.limit);
+            let tolerances = c.tolerances;
+            let outcome = roots::search(&a[..count], method, tolerances, c.limit);
             text::put_outcome(out, at, outcome)
         }
         Reading::Wrong(why) => text::put_fault(out, at, why),

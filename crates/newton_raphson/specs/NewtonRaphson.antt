@@ -8,7 +8,7 @@ use Rattle.numerical.specs.declared.Answer.the-variants.{ByWidth}
 use Rattle.numerical.specs.declared.Outcome.{Outcome}
 use Rattle.numerical.specs.declared.Progress.{Progress}
 use Rattle.simple_convergency.specs.declared.StopRule.{StopRule}
-use Rattle.simple_convergency.specs.Stop.{foundAt}
+use Rattle.simple_convergency.specs.Stop.{flatAt}
 use Rattle.polynom.specs.Polynom.{one}
 use Rattle.polynom.specs.declared.ValueAndDerivative.{ValueAndDerivative}
 use Rattle.searching.specs.Programs.{found, converged, flat, Prog, Turned, ended, next, test, stops, answers, refuses, byValue, bothAt, offered, stepsTo, searches, answerOf}
@@ -34,7 +34,7 @@ landed stop x x1 =
 unfoldable pub onward : StopRule → ValueAndDerivative → Prog (Turned Spot)
 onward stop v = offered (newtonPoint v) (landed stop (v .value .x))
 
--- "Each pass evaluates value and derivative, tests found, then |derivative| < eps .. later it is 7"
+-- "Each pass evaluates value and derivative, tests found, then |derivative| < the value tolerance .. later it is 7"
 unfoldable pub laterAt : StopRule → ValueAndDerivative → Prog (Turned Spot)
 laterAt stop v =
     stops stop (found (v .value))
@@ -59,7 +59,7 @@ unfoldable pub firstAt : StopRule → ValueAndDerivative → Prog (Turned Spot)
 firstAt stop v =
     stops stop (found (v .value))
     (byValue (v .value))
-    (test (foundAt stop (v .derivative))
+    (test (flatAt stop (v .derivative))
     (nudge (v .value .x))
     (onward stop v))
 

@@ -7,7 +7,7 @@ use mathlib.Core.Path.{_≡_, refl, subst}
 use lib.Ieee.{Float}
 use lib.Ieee.Scale.{finite}
 use Rattle.numerical.specs.declared.Answer.{Answer}
-use Rattle.simple_convergency.specs.Stop.{foundAt}
+use Rattle.simple_convergency.specs.Stop.{flatAt}
 use Rattle.simple_convergency.specs.declared.StopRule.{StopRule}
 use Rattle.polynom.specs.Polynom.{valueAndDerivative, evaluatedBoth}
 use Rattle.polynom.specs.declared.ValueAndDerivative.{ValueAndDerivative}
@@ -33,7 +33,7 @@ both-computed a x v = go (finite (valueAndDerivative a x .value .y)) (finite (va
 module _ (a : List Float) (stop : StopRule) (start : Float) where
   -- the start's derivative is flat, so that the first pass nudges
   abbrev pub flatStart : Bool
-  flatStart = foundAt stop (valueAndDerivative a start .derivative)
+  flatStart = flatAt stop (valueAndDerivative a start .derivative)
 
   -- the steps are the larger of 2 and the limit where the start is flat, and the larger of 1 and the limit otherwise
   abbrev pub most : ℕ
@@ -101,8 +101,8 @@ module _ (a : List Float) (stop : StopRule) (start : Float) where
   keeps-first v h t e i =
       ends-stops stop _ (λ f. ends-done (record { reason = by-value t f (plain-going i); unmarked = i .unmarked; not-six = refl }))
       (λ f.
-      let flat : foundAt stop (v .derivative) ≡ true → Reaches left (nudge (v .value .x)) (noted (tested (found (v .value)) false) ∷ h) = λ g. keeps-nudge _ _ (plain-on (known true (rw e g)) refl (rw f refl) refl) in
-      let steep : foundAt stop (v .derivative) ≡ false → Reaches left (onward stop v) (noted (tested (found (v .value)) false) ∷ h) = λ g. keeps-onward left v _ (plain-on (known false (rw e g)) refl (rw f refl) refl) in
+      let flat : flatAt stop (v .derivative) ≡ true → Reaches left (nudge (v .value .x)) (noted (tested (found (v .value)) false) ∷ h) = λ g. keeps-nudge _ _ (plain-on (known true (rw e g)) refl (rw f refl) refl) in
+      let steep : flatAt stop (v .derivative) ≡ false → Reaches left (onward stop v) (noted (tested (found (v .value)) false) ∷ h) = λ g. keeps-onward left v _ (plain-on (known false (rw e g)) refl (rw f refl) refl) in
       search (branches, flat, steep))
     where
       known : (b : Bool) → flatStart ≡ b → Stands (suc (left b)) h

@@ -119,7 +119,8 @@ fn later_at(stop: StopRule, v: ValueAndDerivative, progress: Progress) -> Turn
     if stop.found(value.y) {
         return by_value(value, progress);
     }
-    if stop.found(v.derivative) {
+    let slope = v.derivative;
+    if stop.flat(slope) {
         return ended(Answer::Refused(7), progress);
     }
     onward(stop, v, progress)
@@ -162,7 +163,7 @@ fn first_at(stop: StopRule, v: ValueAndDerivative, progress: Progress) -> Turn
     if stop.found(value.y) {
         return by_value(value, progress);
     }
-    if stop.found(v.derivative) {
+    if stop.flat(v.derivative) {
         return nudge(value.x, progress);
     }
     onward(stop, v, progress)

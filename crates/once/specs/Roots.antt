@@ -1,5 +1,6 @@
 -- Each public function of `roots`: its contract allows one result.
 use Rattle.roots.proofs.search.Reads as search-reads
+use Rattle.roots.proofs.search_simple.Reads as search-simple-reads
 use Rattle.roots.proofs.search_plain.Reads as search-plain-reads
 use Rattle.roots.proofs.find_root_brent.Reads as find-root-brent-reads
 use Rattle.roots.proofs.find_root_regula_falsi.Reads as find-root-regula-falsi-reads
@@ -13,6 +14,9 @@ use Rattle.once.specs.One.{One, fixed}
 
 pub search-once : One search-reads.Learnt
 search-once = fixed _ _
+
+pub search-simple-once : One search-simple-reads.Learnt
+search-simple-once = fixed _ _
 
 pub search-plain-once : One search-plain-reads.Learnt
 search-plain-once = fixed _ _

@@ -22,7 +22,7 @@ use Rattle.polynom_search.specs.declared.To.{To}
 use Rattle.polynom_search.specs.declared.To.the-variants.{Ended, Next}
 use Rattle.polynom_search.specs.declared.Turn.{Turn}
 
--- ---- the opening: "Both ends are evaluated, then 6, even when an end is within eps"
+-- ---- the opening: "Both ends are evaluated, then 6, even when an end is within the value tolerance"
 
 unfoldable pub secondAt : StopRule → Sample → Sample → Prog (Turned Interval)
 secondAt stop p q = bracketed stop p q (record { begin = p; end = q })

@@ -13,8 +13,8 @@ use Rattle.numerical.specs.Answers.{refusedAtOnce}
 use Rattle.numerical.specs.declared.Answer.{Answer}
 use Rattle.numerical.specs.declared.Outcome.{Outcome}
 use Rattle.numerical.specs.declared.Progress.{Progress}
-use Rattle.simple_convergency.specs.Stop.{greatestLimit, badEps, checkedOf}
-use Rattle.simple_convergency.specs.StopLaws.{good-eps-above}
+use Rattle.simple_convergency.specs.Stop.{greatestLimit, eitherBad, checkedOf}
+use Rattle.simple_convergency.specs.StopLaws.{Good, both-good, good-above}
 use Rattle.simple_convergency.specs.declared.StopRule.{StopRule}
 use Rattle.simple_convergency.specs.declared.Checked.the-variants.{Rule, Refused as RuleRefused}
 use Rattle.searching.specs.Programs.{Prog, done, ask, askBoth, log, Event, asked, askedBoth, noted, oracle, play, answerOf}
@@ -27,6 +27,7 @@ use Rattle.regula_falsi.specs.RegulaFalsi.{regulaFalsi}
 use Rattle.secant.specs.Secant.{secant}
 use Rattle.newton_raphson.specs.NewtonRaphson.{newtonRaphson}
 use Rattle.polynom_search.specs.PolynomSearch.{polynomSearch}
+use Rattle.simple_convergency.specs.declared.Tolerances.{Tolerances}
 use Rattle.roots.specs.Calls.{badCount, allFinite, startsOf, foundBy, foundUnder, answer}
 use Rattle.roots.specs.declared.Method.{Method}
 use Rattle.roots.specs.declared.Method.the-variants.{Brent, RegulaFalsi, Secant, NewtonRaphson, Polynom}
@@ -43,47 +44,47 @@ found-by-program a stop (Secant first second) = refl
 found-by-program a stop (NewtonRaphson start) = refl
 found-by-program a stop (Polynom from to) = refl
 
-module _ (a : List Float) (m : Method) (eps : Float) (limit : ℕ) where
+module _ (a : List Float) (m : Method) (tolerances : Tolerances) (limit : ℕ) where
   abbrev pub byNumber : ℕ → Outcome
-  byNumber zero = answerOf a (programOf (ruleOf eps limit) m)
+  byNumber zero = answerOf a (programOf (ruleOf tolerances limit) m)
   byNumber (suc n) = refusedAtOnce (suc n)
 
-  pub answer-is : answer a m eps limit ≡ byNumber (atOnce a m eps limit)
+  pub answer-is : answer a m tolerances limit ≡ byNumber (atOnce a m tolerances limit)
   unfolding answer atOnce checkedOf
-  answer-is = go (badCount (length a)) (allFinite a) (allFinite (startsOf m)) (badEps eps) (ltb greatestLimit limit)
+  answer-is = go (badCount (length a)) (allFinite a) (allFinite (startsOf m)) (eitherBad tolerances) (ltb greatestLimit limit)
     where
       go :
           (b c d e f : Bool) →
-          cond b (refusedAtOnce 1) (cond c (cond d (foundUnder a m (cond e (RuleRefused 4) (cond f (RuleRefused 5) (Rule (ruleOf eps limit))))) (refusedAtOnce 3)) (refusedAtOnce 2))
+          cond b (refusedAtOnce 1) (cond c (cond d (foundUnder a m (cond e (RuleRefused 4) (cond f (RuleRefused 5) (Rule (ruleOf tolerances limit))))) (refusedAtOnce 3)) (refusedAtOnce 2))
           ≡ byNumber (cond b 1 (cond c (cond d (cond e 4 (cond f 5 0)) 3) 2))
       go true c d e f = refl
       go false false d e f = refl
       go false true false e f = refl
       go false true true true f = refl
       go false true true false true = refl
-      go false true true false false = found-by-program a (ruleOf eps limit) m
+      go false true true false false = found-by-program a (ruleOf tolerances limit) m
 
   -- a call that passes 1 to 5
   pub record Passed : Type 0 where
     pub starts-finite : allFinite (startsOf m) ≡ true
-    pub good-eps : badEps eps ≡ false
-    pub eps-above : above eps ≡ true
+    pub good : Good tolerances
+    pub value-above : above (tolerances .value) ≡ true
     pub in-range : limit ≤ greatestLimit
-    pub is-answer : answer a m eps limit ≡ answerOf a (programOf (ruleOf eps limit) m)
+    pub is-answer : answer a m tolerances limit ≡ answerOf a (programOf (ruleOf tolerances limit) m)
 
-  pub passed : atOnce a m eps limit ≡ 0 → Passed
+  pub passed : atOnce a m tolerances limit ≡ 0 → Passed
   unfolding atOnce
   passed z =
       record {
         starts-finite = told .0;
-        good-eps = told .1;
-        eps-above = good-eps-above eps (told .1);
+        good = both-good tolerances (told .1);
+        value-above = good-above (tolerances .value) (both-good tolerances (told .1) .of-values);
         in-range = ltb-false greatestLimit limit (told .2);
         is-answer = answer-is ∙ ap byNumber z;
       }
     where
-      told : (allFinite (startsOf m) ≡ true) × (badEps eps ≡ false) × (ltb greatestLimit limit ≡ false)
-      told = go (badCount (length a)) (allFinite a) (allFinite (startsOf m)) (badEps eps) (ltb greatestLimit limit) z
+      told : (allFinite (startsOf m) ≡ true) × (eitherBad tolerances ≡ false) × (ltb greatestLimit limit ≡ false)
+      told = go (badCount (length a)) (allFinite a) (allFinite (startsOf m)) (eitherBad tolerances) (ltb greatestLimit limit) z
         where
           go : (b c d e f : Bool) → _≡_ {A = ℕ} (cond b 1 (cond c (cond d (cond e 4 (cond f 5 0)) 3) 2)) 0 → (d ≡ true) × (e ≡ false) × (f ≡ false)
           go true c d e f z = absurd (omega arith)
@@ -101,15 +102,15 @@ at-answer a {Q} g e = subst (λ (x : Answer). Q x (play listed (oracle a) g [] .
     same : answerOf a g .answer ≡ play listed (oracle a) g [] .0
     same = ap (λ (r : Answer × Progress). r .0) (play-counted (oracle a) g [])
 
-module _ (a : List Float) (m : Method) (eps : Float) (limit : ℕ) (z : atOnce a m eps limit ≡ 0) where
-  told-answer : answer a m eps limit ≡ answerOf a (programOf (ruleOf eps limit) m)
-  told-answer = passed a m eps limit z .is-answer
+module _ (a : List Float) (m : Method) (tolerances : Tolerances) (limit : ℕ) (z : atOnce a m tolerances limit ≡ 0) where
+  told-answer : answer a m tolerances limit ≡ answerOf a (programOf (ruleOf tolerances limit) m)
+  told-answer = passed a m tolerances limit z .is-answer
 
-  pub answer-found : answer a m eps limit ≡ foundBy a (ruleOf eps limit) m
-  answer-found = told-answer ∙ sym (found-by-program a (ruleOf eps limit) m)
+  pub answer-found : answer a m tolerances limit ≡ foundBy a (ruleOf tolerances limit) m
+  answer-found = told-answer ∙ sym (found-by-program a (ruleOf tolerances limit) m)
 
-  pub counts-of : answer a m eps limit .progress ≡ counted (historyOf a m eps limit)
-  counts-of = rw told-answer (tallies-are-counts a (programOf (ruleOf eps limit) m))
+  pub counts-of : answer a m tolerances limit .progress ≡ counted (historyOf a m tolerances limit)
+  counts-of = rw told-answer (tallies-are-counts a (programOf (ruleOf tolerances limit) m))
 
 -- every play asks the evaluator
 play-truthful : {A : Type 0} (a : List Float) (g : Prog A) (h : List Event) → Truthful a h → Truthful a (play listed (oracle a) g h .1)
@@ -119,6 +120,6 @@ play-truthful a (ask x f) h t = play-truthful a (f (evaluated a x)) (asked x (ev
 play-truthful a (askBoth x f) h t = play-truthful a (f (evaluatedBoth a x)) (askedBoth x (evaluatedBoth a x) ∷ h) (refl, t)
 play-truthful a (log n g) h t = play-truthful a g (noted n ∷ h) t
 
-pub history-truthful : (a : List Float) (m : Method) (eps : Float) (limit : ℕ) → Truthful a (historyOf a m eps limit)
+pub history-truthful : (a : List Float) (m : Method) (tolerances : Tolerances) (limit : ℕ) → Truthful a (historyOf a m tolerances limit)
 unfolding history
-history-truthful a m eps limit = play-truthful a (programOf (ruleOf eps limit) m) [] tt
+history-truthful a m tolerances limit = play-truthful a (programOf (ruleOf tolerances limit) m) [] tt

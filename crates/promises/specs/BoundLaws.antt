@@ -10,6 +10,7 @@ use Rattle.regula_falsi.specs.RegulaFalsiLaws.{regula-falsi-values, regula-fals
 use Rattle.secant.specs.SecantLaws.{secant-values, secant-derivatives}
 use Rattle.newton_raphson.specs.NewtonRaphsonLaws.{newton-raphson-values, newton-raphson-derivatives}
 use Rattle.polynom_search.specs.PolynomSearchLaws.{polynom-search-values, polynom-search-derivatives}
+use Rattle.simple_convergency.specs.declared.Tolerances.{Tolerances}
 use Rattle.roots.specs.Calls.{foundBy, answer}
 use Rattle.roots.specs.declared.Method.{Method}
 use Rattle.roots.specs.declared.Method.the-variants.{Brent, RegulaFalsi, Secant, NewtonRaphson, Polynom}
@@ -31,9 +32,9 @@ derivatives-most a stop (Secant first second) = secant-derivatives a stop first 
 derivatives-most a stop (NewtonRaphson start) = newton-raphson-derivatives a stop start
 derivatives-most a stop (Polynom from to) = polynom-search-derivatives a stop from to
 
-module _ (a : List Float) (m : Method) (eps : Float) (limit : ℕ) (z : atOnce a m eps limit ≡ 0) where
-  pub values-within : answer a m eps limit .progress .tally .values .0 ≤ mostValues m (ruleOf eps limit)
-  values-within = rw (answer-found a m eps limit z) (values-most a (ruleOf eps limit) m)
+module _ (a : List Float) (m : Method) (tolerances : Tolerances) (limit : ℕ) (z : atOnce a m tolerances limit ≡ 0) where
+  pub values-within : answer a m tolerances limit .progress .tally .values .0 ≤ mostValues m (ruleOf tolerances limit)
+  values-within = rw (answer-found a m tolerances limit z) (values-most a (ruleOf tolerances limit) m)
 
-  pub derivatives-within : answer a m eps limit .progress .tally .derivatives .0 ≤ mostDerivatives m (ruleOf eps limit)
-  derivatives-within = rw (answer-found a m eps limit z) (derivatives-most a (ruleOf eps limit) m)
+  pub derivatives-within : answer a m tolerances limit .progress .tally .derivatives .0 ≤ mostDerivatives m (ruleOf tolerances limit)
+  derivatives-within = rw (answer-found a m tolerances limit z) (derivatives-most a (ruleOf tolerances limit) m)

@@ -1,4 +1,4 @@
--- W1 to W13 of document 01, its limits with the Rust's for a plain eps, calls that reach its bounds, and W1, W7 and W8 with the Rust's evaluations, as one statement each over a list of calls with their answers.
+-- W1 to W13 of document 01, its limits with the Rust's for a plain eps, calls with two different tolerances, calls that reach its bounds, and W1, W7 and W8 with the Rust's evaluations, as one statement each over a list of calls with their answers.
 use Prim.Native.Nat.{ℕ, zero, suc, _+_}
 use mathlib.Core.Bool.{Bool, true, false, cond, _&&_}
 use mathlib.Core.List.{List, [], _∷_}
@@ -11,7 +11,7 @@ use Rattle.numerical.specs.Answers.{kindOf, numbersOf}
 use Rattle.numerical.specs.Tallies.{markAfter}
 use Rattle.numerical.specs.Middle.{atLeast, atMost, crosses, middleOf}
 use Rattle.numerical.specs.declared.Outcome.{Outcome}
-use Rattle.simple_convergency.specs.Stop.{plainLimit, badEps, checkedOf, foundAt, convergedAt}
+use Rattle.simple_convergency.specs.Stop.{plainLimit, tolerancesOf, badTolerance, eitherBad, checkedOf, foundAt, flatAt, convergedAt}
 use Rattle.polynom.specs.Polynom.{sums, value, sumsBoth, valueAndDerivative, evaluated, evaluatedBoth}
 use Rattle.searching.specs.Programs.{rising, bind, test, stops, sampled, sampledBoth, valueAt, bothAt, offered, pulledInto, productDeparts, bracketed, stepsTo, narrowsTo, run, searches, play, answerOf}
 use Rattle.brent.specs.Brent as br
@@ -29,7 +29,8 @@ use Rattle.promises.specs.Counts.{ruleOf, mostValues, mostDerivatives, r
 pub record Case : Type 0 where
   pub coefficients : List ℕ
   pub method : Method
-  pub eps : ℕ
+  pub value-tolerance : ℕ
+  pub point-tolerance : ℕ
   pub limit : ℕ
   pub kind : ℕ
   pub numbers : List ℕ
@@ -62,7 +63,7 @@ agrees c o =
     && eqb (o .progress .mark) (c .mark)))))
 
 unfoldable pub isMet : Case → Bool
-isMet c = agrees c (answer (doubles (c .coefficients)) (c .method) (double (c .eps)) (c .limit))
+isMet c = agrees c (answer (doubles (c .coefficients)) (c .method) (tolerancesOf (double (c .value-tolerance)) (double (c .point-tolerance))) (c .limit))
 
 unfoldable pub allMet : List Case → Bool
 allMet [] = true
@@ -91,6 +92,9 @@ minus1 = 0xbff0_0000_0000_0000
 abbrev pub minus2 : ℕ
 minus2 = 0xc000_0000_0000_0000
 
+abbrev pub minus4 : ℕ
+minus4 = 0xc010_0000_0000_0000
+
 abbrev pub minus150 : ℕ
 minus150 = 0xc062_c000_0000_0000
 
@@ -107,14 +111,14 @@ part4096 = 0x3f30_0000_0000_0000
 abbrev pub nearest300by204 : ℕ
 nearest300by204 = 0x3ff7_8787_8787_8788
 
--- a refusal, and the two acceptances; the mark is 0 in all of them
+-- a refusal, and the two acceptances, with one eps for both tolerances; the mark is 0 in all of them
 abbrev pub refused : List ℕ → Method → ℕ → ℕ → ℕ → ℕ → ℕ → ℕ → Case
 refused a m eps limit number steps values derivatives =
-    record { coefficients = a; method = m; eps = eps; limit = limit; kind = 10 + number; numbers = []; steps = steps; values = values; derivatives = derivatives; mark = 0 }
+    record { coefficients = a; method = m; value-tolerance = eps; point-tolerance = eps; limit = limit; kind = 10 + number; numbers = []; steps = steps; values = values; derivatives = derivatives; mark = 0 }
 
 abbrev pub accepted : List ℕ → Method → ℕ → ℕ → ℕ → List ℕ → ℕ → ℕ → ℕ → Case
 accepted a m eps limit kind numbers steps values derivatives =
-    record { coefficients = a; method = m; eps = eps; limit = limit; kind = kind; numbers = numbers; steps = steps; values = values; derivatives = derivatives; mark = 0 }
+    record { coefficients = a; method = m; value-tolerance = eps; point-tolerance = eps; limit = limit; kind = kind; numbers = numbers; steps = steps; values = values; derivatives = derivatives; mark = 0 }
 
 -- ---- "W1 to W13 are proved as one statement about the definitions over the list"
 
@@ -173,6 +177,53 @@ limits =
     ∷ refused (d0 ∷ d1 ∷ []) (NewtonRaphson (double half)) part1024 plainLimit 8 30 30 30
     ∷ []
 
+-- ---- two different tolerances; but for the last four, each answer is another where the two change places
+
+abbrev pub d3 : ℕ
+d3 = 0x4008_0000_0000_0000
+
+abbrev pub d5 : ℕ
+d5 = 0x4014_0000_0000_0000
+
+abbrev pub d6 : ℕ
+d6 = 0x4018_0000_0000_0000
+
+abbrev pub d54 : ℕ
+d54 = 0x404b_0000_0000_0000
+
+abbrev pub d64 : ℕ
+d64 = 0x4050_0000_0000_0000
+
+-- the same case with these tolerances
+abbrev pub within : ℕ → ℕ → Case → Case
+within value point c =
+    record { coefficients = c .coefficients; method = c .method; value-tolerance = value; point-tolerance = point; limit = c .limit; kind = c .kind; numbers = c .numbers; steps = c .steps; values = c .values; derivatives = c .derivatives; mark = c .mark }
+
+unfoldable pub apart : List Case
+apart =
+    -- Brent, Illinois and the polynomial search on W9's polynomial: by value with the larger value tolerance, by width with the larger point tolerance
+    within d64 part1024 (accepted (d100 ∷ minus150 ∷ []) (Brent (double d0) (double d2)) d0 10 0 (d2 ∷ d54 ∷ []) 0 2 0)
+    ∷ within part1024 d4 (accepted (d100 ∷ minus150 ∷ []) (Brent (double d0) (double d2)) d0 10 1 (d0 ∷ d0 ∷ d2 ∷ []) 0 2 0)
+    ∷ within d64 part1024 (accepted (d100 ∷ minus150 ∷ []) (RegulaFalsi (double d0) (double d2)) d0 10 0 (d2 ∷ d54 ∷ []) 0 2 0)
+    ∷ within part1024 d4 (accepted (d100 ∷ minus150 ∷ []) (RegulaFalsi (double d0) (double d2)) d0 10 1 (nearest300by204 ∷ d0 ∷ d2 ∷ []) 0 2 0)
+    ∷ within d64 part1024 (accepted (d100 ∷ minus150 ∷ []) (Polynom (double d0) (double d2)) d0 10 0 (d2 ∷ d54 ∷ []) 0 2 0)
+    ∷ within part1024 d4 (accepted (d100 ∷ minus150 ∷ []) (Polynom (double d0) (double d2)) d0 10 1 (nearest300by204 ∷ d0 ∷ d2 ∷ []) 0 2 0)
+    -- Brent's fourth condition fails by the point tolerance and holds by the value tolerance; then so does the fifth
+    ∷ within d2 d1 (accepted (d0 ∷ minus4 ∷ []) (Brent (double d4) (double d0)) d0 4 0 (0x3ffd_b6db_6db6_db6e ∷ 0xbfe1_a1f5_8d0f_ac68 ∷ []) 3 5 0)
+    ∷ within d2 d1 (accepted (d4 ∷ d0 ∷ []) (Brent (double minus2) (double d1)) d0 4 0 (0xbfb5_c34b_064c_be20 ∷ 0xbfd5_4ce3_33b2_32ed ∷ []) 3 5 0)
+    -- secant's x - 1 from 5 and 6, whose values differ by 1: 7 by the value tolerance, and else the root
+    ∷ within d2 part1024 (refused (minus1 ∷ []) (Secant (double d5) (double d6)) d0 10 7 0 2 0)
+    ∷ within part1024 d2 (accepted (minus1 ∷ []) (Secant (double d5) (double d6)) d0 10 0 (d1 ∷ d0 ∷ []) 0 3 0)
+    -- Newton's x + 3 from 3, whose derivative is 1: nudged and then 7 by the value tolerance, and else a step to -3, 6 away
+    ∷ within d4 part1024 (refused (d3 ∷ []) (NewtonRaphson (double d3)) d0 1 7 1 2 2)
+    ∷ within part1024 d4 (refused (d3 ∷ []) (NewtonRaphson (double d3)) d0 1 8 1 1 1)
+    -- each of the two may be 2^-300, and neither its half
+    ∷ within least part1024 (accepted (noughts 1) fromNought d0 9 0 (d0 ∷ d0 ∷ []) 0 1 0)
+    ∷ within part1024 least (accepted (noughts 1) fromNought d0 9 0 (d0 ∷ d0 ∷ []) 0 1 0)
+    ∷ within halfLeast part1024 (refused (noughts 1) fromNought d0 9 4 0 0 0)
+    ∷ within part1024 halfLeast (refused (noughts 1) fromNought d0 9 4 0 0 0)
+    ∷ []
+
 -- ---- the bounds on values and derivatives are reached, at limits 1 and 3
 
 -- the calls of W1 to W5 with limit 3, and an eps so small that nothing stops them before
@@ -188,7 +239,7 @@ reaching =
 -- the counts of a case are its method's bounds
 unfoldable pub reachesBounds : Case → Bool
 reachesBounds c =
-    let stop = ruleOf (double (c .eps)) (c .limit) in
+    let stop = ruleOf (tolerancesOf (double (c .value-tolerance)) (double (c .point-tolerance))) (c .limit) in
     eqb (c .values) (mostValues (c .method) stop) && eqb (c .derivatives) (mostDerivatives (c .method) stop)
 
 unfoldable pub allReach : List Case → Bool
@@ -212,13 +263,13 @@ rustCases =
 -- whether the definition with the Rust's evaluations meets each
 unfoldable pub allMetAgain : List Case → Bool
 allMetAgain [] = true
-allMetAgain (c ∷ rest) = cond (agrees c (rustFoundBy (doubles (c .coefficients)) (ruleOf (double (c .eps)) (c .limit)) (c .method))) (allMetAgain rest) false
+allMetAgain (c ∷ rest) = cond (agrees c (rustFoundBy (doubles (c .coefficients)) (ruleOf (tolerancesOf (double (c .value-tolerance)) (double (c .point-tolerance))) (c .limit)) (c .method))) (allMetAgain rest) false
 
 -- ---- every call of a list gets exactly the answer that stands there
 
-all-hold : (allMet cases ≡ true) × (allMet limits ≡ true) × (allMet reaching ≡ true) × (allMetAgain rustCases ≡ true)
-unfolding allMet cases limits reaching allMetAgain rustCases isMet agrees doubles sameBits answer badCount allFinite checkedOf badEps foundAt convergedAt absolute sameSign oppositeSign outside pulled atLeast atMost crosses middleOf markAfter sums value sumsBoth valueAndDerivative evaluated evaluatedBoth bind test stops sampled sampledBoth valueAt bothAt offered pulledInto rising productDeparts bracketed stepsTo narrowsTo run searches play answerOf br.arrange br.startOf br.opened br.secondAt br.firstAt br.opening br.inverseQuadratic br.chord br.threeValues br.guessOf br.beyondQuarter br.tooSlow br.stalls br.bisects br.usedOf br.nextOf br.pairAfter br.stepDeparts br.arrived br.landed br.pulledIn br.stepWith br.stepFrom br.turnFrom br.brentProgram br.brent rb.rustArrived rb.rustStep rb.rustTurn rb.rustProgram rb.rustBrent rf.secondAt rf.firstAt rf.ordered rf.opening rf.candidateOf rf.replacedOf rf.departs rf.arrived rf.landed rf.pulledIn rf.turnFrom rf.illinoisProgram rf.regulaFalsi sec.secondAt sec.firstAt sec.opening sec.candidateOf sec.arrived sec.landed sec.turnFrom sec.secantProgram sec.secant nr.newtonPoint nr.landed nr.onward nr.laterAt nr.turnFrom nr.nudgedTo nr.nudge nr.firstAt nr.opening nr.newtonProgram nr.newtonRaphson ps.secondAt ps.firstAt ps.ordered ps.opening ps.replacedOf ps.chosen ps.closer ps.newtonPoint ps.inPair ps.usable ps.atMiddle ps.stepAt ps.widthAt ps.pulledIn ps.atMiddleOf ps.turnFrom ps.polynomProgram ps.polynomSearch lt le eq ne neg sub add mul div ofBits toBits
-all-hold = (refl, refl, refl, refl)
+all-hold : (allMet cases ≡ true) × (allMet limits ≡ true) × (allMet apart ≡ true) × (allMet reaching ≡ true) × (allMetAgain rustCases ≡ true)
+unfolding allMet cases limits apart reaching allMetAgain rustCases isMet agrees doubles sameBits answer badCount allFinite checkedOf badTolerance eitherBad foundAt flatAt convergedAt absolute sameSign oppositeSign outside pulled atLeast atMost crosses middleOf markAfter sums value sumsBoth valueAndDerivative evaluated evaluatedBoth bind test stops sampled sampledBoth valueAt bothAt offered pulledInto rising productDeparts bracketed stepsTo narrowsTo run searches play answerOf br.arrange br.startOf br.opened br.secondAt br.firstAt br.opening br.inverseQuadratic br.chord br.threeValues br.guessOf br.beyondQuarter br.tooSlow br.stalls br.bisects br.usedOf br.nextOf br.pairAfter br.stepDeparts br.arrived br.landed br.pulledIn br.stepWith br.stepFrom br.turnFrom br.brentProgram br.brent rb.rustArrived rb.rustStep rb.rustTurn rb.rustProgram rb.rustBrent rf.secondAt rf.firstAt rf.ordered rf.opening rf.candidateOf rf.replacedOf rf.departs rf.arrived rf.landed rf.pulledIn rf.turnFrom rf.illinoisProgram rf.regulaFalsi sec.secondAt sec.firstAt sec.opening sec.candidateOf sec.arrived sec.landed sec.turnFrom sec.secantProgram sec.secant nr.newtonPoint nr.landed nr.onward nr.laterAt nr.turnFrom nr.nudgedTo nr.nudge nr.firstAt nr.opening nr.newtonProgram nr.newtonRaphson ps.secondAt ps.firstAt ps.ordered ps.opening ps.replacedOf ps.chosen ps.closer ps.newtonPoint ps.inPair ps.usable ps.atMiddle ps.stepAt ps.widthAt ps.pulledIn ps.atMiddleOf ps.turnFrom ps.polynomProgram ps.polynomSearch lt le eq ne neg sub add mul div ofBits toBits
+all-hold = (refl, refl, refl, refl, refl)
 
 pub cases-hold : allMet cases ≡ true
 cases-hold = all-hold .0
@@ -226,8 +277,11 @@ cases-hold = all-hold .0
 pub limits-hold : allMet limits ≡ true
 limits-hold = all-hold .1
 
+pub apart-hold : allMet apart ≡ true
+apart-hold = all-hold .2
+
 pub reaching-hold : allMet reaching ≡ true
-reaching-hold = all-hold .2
+reaching-hold = all-hold .3
 
 pub rust-cases-hold : allMetAgain rustCases ≡ true
-rust-cases-hold = all-hold .3
+rust-cases-hold = all-hold .4

@@ -5,14 +5,15 @@ use lib.Ieee.{Float}
 use Rattle.numerical.specs.declared.Outcome.{Outcome}
 use Rattle.simple_convergency.specs.Stop.{turnsOf}
 use Rattle.simple_convergency.specs.declared.StopRule.{StopRule}
+use Rattle.simple_convergency.specs.declared.Tolerances.{Tolerances}
 use Rattle.brent.specs.BrentRust.{rustBrent}
 use Rattle.roots.specs.Calls.{foundBy}
 use Rattle.roots.specs.declared.Method.{Method}
 use Rattle.roots.specs.declared.Method.the-variants.{Brent, RegulaFalsi, Secant, NewtonRaphson, Polynom}
 
 -- the stop rule of a call
-abbrev pub ruleOf : Float → ℕ → StopRule
-ruleOf eps limit = record { eps = eps; limit = limit }
+abbrev pub ruleOf : Tolerances → ℕ → StopRule
+ruleOf tolerances limit = record { tolerances = tolerances; limit = limit }
 
 -- ---- the bounds
 

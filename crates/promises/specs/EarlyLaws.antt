@@ -10,11 +10,12 @@ use borrow.Author.Tests.{eqb-true, eqb-false, ltb-true, ltb-false}
 use lib.ListN.{length}
 use lib.Ieee.{Float, lt}
 use lib.Ieee.Scale.{finite}
-use Rattle.simple_convergency.specs.Stop.{leastEps, greatestLimit, mostCoefficients, badEps}
+use Rattle.simple_convergency.specs.Stop.{leastTolerance, greatestLimit, mostCoefficients, badTolerance, eitherBad}
+use Rattle.simple_convergency.specs.declared.Tolerances.{Tolerances}
 use Rattle.roots.specs.CallLaws.{first-of}
 use Rattle.roots.specs.Calls.{badCount, allFinite, startsOf}
 use Rattle.roots.specs.declared.Method.{Method}
-use Rattle.promises.specs.Searches.{BadCount, SomeNotFinite, BadEps, Early, one, two, three, four, five, Passes}
+use Rattle.promises.specs.Searches.{BadCount, SomeNotFinite, BadTolerance, EitherBad, Early, one, two, three, four, five, Passes}
 
 -- a test tells whether P holds
 pub record Tells (P : Type 0) (b : Bool) : Type 0 where
@@ -71,18 +72,31 @@ tells-finite l = record { yes = λ e s. true≢false (sym (each-finite l (s .0) 
 all-finite : (l : List Float) → SomeNotFinite l → allFinite l ≡ false
 all-finite l s = is-not (tells-finite l) (λ n. n s)
 
-pub tells-eps : (eps : Float) → Tells (BadEps eps) (badEps eps)
-unfolding badEps
-tells-eps eps = record { yes = yes (finite eps) refl; no = no (finite eps) refl }
+pub tells-tolerance : (x : Float) → Tells (BadTolerance x) (badTolerance x)
+unfolding badTolerance
+tells-tolerance x = record { yes = yes (finite x) refl; no = no (finite x) refl }
   where
-    yes : (b : Bool) → finite eps ≡ b → cond b (lt eps leastEps) true ≡ true → BadEps eps
+    yes : (b : Bool) → finite x ≡ b → cond b (lt x leastTolerance) true ≡ true → BadTolerance x
     yes true e k = inr k
     yes false e k = inl e
 
-    no : (b : Bool) → finite eps ≡ b → cond b (lt eps leastEps) true ≡ false → ¬ BadEps eps
+    no : (b : Bool) → finite x ≡ b → cond b (lt x leastTolerance) true ≡ false → ¬ BadTolerance x
     no true e k (inl f) = true≢false (sym e ∙ f)
     no true e k (inr f) = true≢false (sym f ∙ k)
     no false e k bad = true≢false k
+
+pub tells-tolerances : (tolerances : Tolerances) → Tells (EitherBad tolerances) (eitherBad tolerances)
+unfolding eitherBad
+tells-tolerances tolerances = record { yes = yes (badTolerance (tolerances .value)) refl; no = no (badTolerance (tolerances .value)) refl }
+  where
+    yes : (b : Bool) → badTolerance (tolerances .value) ≡ b → cond b true (badTolerance (tolerances .point)) ≡ true → EitherBad tolerances
+    yes true e k = inl (tells-tolerance (tolerances .value) .yes e)
+    yes false e k = inr (tells-tolerance (tolerances .point) .yes k)
+
+    no : (b : Bool) → badTolerance (tolerances .value) ≡ b → cond b true (badTolerance (tolerances .point)) ≡ false → ¬ EitherBad tolerances
+    no true e k bad = true≢false k
+    no false e k (inl v) = tells-tolerance (tolerances .value) .no e v
+    no false e k (inr p) = tells-tolerance (tolerances .point) .no k p
 
 pub tells-limit : (limit : ℕ) → Tells (greatestLimit < limit) (ltb greatestLimit limit)
 tells-limit limit = record { yes = ltb-true greatestLimit limit; no = λ e l. omega (arith, ltb-false greatestLimit limit e, l) }
@@ -90,43 +104,43 @@ tells-limit limit = record { yes = ltb-true greatestLimit limit; no = λ e l. om
 -- ---- the first of them
 
 -- the definition's tests in turn: the first of 1 to 5 that a call gets, and 0 where it gets none
-unfoldable pub atOnce : List Float → Method → Float → ℕ → ℕ
-atOnce a m eps limit =
+unfoldable pub atOnce : List Float → Method → Tolerances → ℕ → ℕ
+atOnce a m tolerances limit =
     cond (badCount (length a)) 1
     (cond (allFinite a)
     (cond (allFinite (startsOf m))
-    (cond (badEps eps) 4
+    (cond (eitherBad tolerances) 4
     (cond (ltb greatestLimit limit) 5 0))
     3)
     2)
 
-module _ (a : List Float) (m : Method) (eps : Float) (limit : ℕ) where
-  pub early-at-once : {n : ℕ} → Early a m eps limit n → atOnce a m eps limit ≡ n
+module _ (a : List Float) (m : Method) (tolerances : Tolerances) (limit : ℕ) where
+  pub early-at-once : {n : ℕ} → Early a m tolerances limit n → atOnce a m tolerances limit ≡ n
   unfolding atOnce
   early-at-once (one b) = rw (is-so (tells-count a) b) refl
   early-at-once (two c b) = rw (is-not (tells-count a) c, all-finite a b) refl
   early-at-once (three c f b) = rw (is-not (tells-count a) c, is-so (tells-finite a) f, all-finite (startsOf m) b) refl
-  early-at-once (four c f s b) = rw (is-not (tells-count a) c, is-so (tells-finite a) f, is-so (tells-finite (startsOf m)) s, is-so (tells-eps eps) b) refl
-  early-at-once (five c f s e b) = rw (is-not (tells-count a) c, is-so (tells-finite a) f, is-so (tells-finite (startsOf m)) s, is-not (tells-eps eps) e, is-so (tells-limit limit) b) refl
+  early-at-once (four c f s b) = rw (is-not (tells-count a) c, is-so (tells-finite a) f, is-so (tells-finite (startsOf m)) s, is-so (tells-tolerances tolerances) b) refl
+  early-at-once (five c f s e b) = rw (is-not (tells-count a) c, is-so (tells-finite a) f, is-so (tells-finite (startsOf m)) s, is-not (tells-tolerances tolerances) e, is-so (tells-limit limit) b) refl
 
-  pub passes-at-once : Passes a m eps limit → atOnce a m eps limit ≡ 0
+  pub passes-at-once : Passes a m tolerances limit → atOnce a m tolerances limit ≡ 0
   unfolding atOnce
   passes-at-once p =
-      rw (is-not (tells-count a) (p .good-count), is-so (tells-finite a) (p .good-coefficients), is-so (tells-finite (startsOf m)) (p .good-starts), is-not (tells-eps eps) (p .good-eps), is-not (tells-limit limit) (p .good-limit)) refl
+      rw (is-not (tells-count a) (p .good-count), is-so (tells-finite a) (p .good-coefficients), is-so (tells-finite (startsOf m)) (p .good-starts), is-not (tells-tolerances tolerances) (p .good-tolerances), is-not (tells-limit limit) (p .good-limit)) refl
 
   -- every call is refused with one of them, or passes
-  pub at-once-early : Early a m eps limit (atOnce a m eps limit) ⊎ Passes a m eps limit
+  pub at-once-early : Early a m tolerances limit (atOnce a m tolerances limit) ⊎ Passes a m tolerances limit
   unfolding atOnce
-  at-once-early = go (badCount (length a)) (allFinite a) (allFinite (startsOf m)) (badEps eps) (ltb greatestLimit limit) refl refl refl refl refl
+  at-once-early = go (badCount (length a)) (allFinite a) (allFinite (startsOf m)) (eitherBad tolerances) (ltb greatestLimit limit) refl refl refl refl refl
     where
       go :
-          (b c d e f : Bool) → badCount (length a) ≡ b → allFinite a ≡ c → allFinite (startsOf m) ≡ d → badEps eps ≡ e → ltb greatestLimit limit ≡ f →
-          Early a m eps limit (cond b 1 (cond c (cond d (cond e 4 (cond f 5 0)) 3) 2)) ⊎ Passes a m eps limit
+          (b c d e f : Bool) → badCount (length a) ≡ b → allFinite a ≡ c → allFinite (startsOf m) ≡ d → eitherBad tolerances ≡ e → ltb greatestLimit limit ≡ f →
+          Early a m tolerances limit (cond b 1 (cond c (cond d (cond e 4 (cond f 5 0)) 3) 2)) ⊎ Passes a m tolerances limit
       go true c d e f hb hc hd he hf = inl (one (tells-count a .yes hb))
       go false false d e f hb hc hd he hf = inl (two (tells-count a .no hb) (some-not a hc))
       go false true false e f hb hc hd he hf = inl (three (tells-count a .no hb) (tells-finite a .yes hc) (some-not (startsOf m) hd))
-      go false true true true f hb hc hd he hf = inl (four (tells-count a .no hb) (tells-finite a .yes hc) (tells-finite (startsOf m) .yes hd) (tells-eps eps .yes he))
+      go false true true true f hb hc hd he hf = inl (four (tells-count a .no hb) (tells-finite a .yes hc) (tells-finite (startsOf m) .yes hd) (tells-tolerances tolerances .yes he))
       go false true true false true hb hc hd he hf =
-          inl (five (tells-count a .no hb) (tells-finite a .yes hc) (tells-finite (startsOf m) .yes hd) (tells-eps eps .no he) (tells-limit limit .yes hf))
+          inl (five (tells-count a .no hb) (tells-finite a .yes hc) (tells-finite (startsOf m) .yes hd) (tells-tolerances tolerances .no he) (tells-limit limit .yes hf))
       go false true true false false hb hc hd he hf =
-          inr (record { good-count = tells-count a .no hb; good-coefficients = tells-finite a .yes hc; good-starts = tells-finite (startsOf m) .yes hd; good-eps = tells-eps eps .no he; good-limit = tells-limit limit .no hf })
+          inr (record { good-count = tells-count a .no hb; good-coefficients = tells-finite a .yes hc; good-starts = tells-finite (startsOf m) .yes hd; good-tolerances = tells-tolerances tolerances .no he; good-limit = tells-limit limit .no hf })

@@ -24,6 +24,7 @@ use Rattle.regula_falsi.specs.RegulaFalsiKeeps.{regula-falsi-ends}
 use Rattle.secant.specs.SecantKeeps.{secant-ends}
 use Rattle.newton_raphson.specs.NewtonRaphsonKeeps.{newton-raphson-ends}
 use Rattle.polynom_search.specs.PolynomSearchKeeps.{polynom-search-ends}
+use Rattle.simple_convergency.specs.declared.Tolerances.{Tolerances}
 use Rattle.roots.specs.CallLaws.{first-of, both-of}
 use Rattle.roots.specs.Calls.{allFinite, startsOf, answer}
 use Rattle.roots.specs.declared.Method.{Method}
@@ -41,7 +42,7 @@ pub two-doubles : (x y : Float) → Held (x ∷ y ∷ []) → allFinite (x ∷ y
 two-doubles x y d e = let f = both-of x y e in (start-double x (d .0) (f .0), start-double y (d .1 .0) (f .1))
 
 -- the reason at the end, a method at a time
-module _ (a : List Float) (stop : StopRule) (good : above (stop .eps) ≡ true) where
+module _ (a : List Float) (stop : StopRule) (good : above (stop .tolerances .value) ≡ true) where
   bracket-at : (m : Method) (u v : Float) → Bracketed m u v → Held (startsOf m) → allFinite (startsOf m) ≡ true → Ends (oracle a) (Bracket a stop u v) (programOf stop m) []
   bracket-at (Brent from to) u v s d e = let w = two-doubles from to d e in rw (← s .0, ← s .1) (brent-ends a stop good from to (w .0) (w .1))
   bracket-at (RegulaFalsi from to) u v s d e = let w = two-doubles from to d e in rw (← s .0, ← s .1) (regula-falsi-ends a stop from to (w .0) (w .1))
@@ -74,24 +75,24 @@ reason-width : {a : List Float} {stop : StopRule} {most : ℕ} {root p q : Float
 reason-width (by-width z e q) = (e, z)
 reason-width (by-middle z e f q) = (e, z)
 
-module _ (a : List Float) (m : Method) (eps : Float) (limit : ℕ) (z : atOnce a m eps limit ≡ 0) (d : Held (startsOf m)) where
-  pub reason-of : Reason a (ruleOf eps limit) (mostSteps a (ruleOf eps limit) m) (answer a m eps limit .answer) (historyOf a m eps limit)
-  reason-of = let p = passed a m eps limit z in rw (p .is-answer) (reason-at a (ruleOf eps limit) (p .eps-above) m d (p .starts-finite))
+module _ (a : List Float) (m : Method) (tolerances : Tolerances) (limit : ℕ) (z : atOnce a m tolerances limit ≡ 0) (d : Held (startsOf m)) where
+  pub reason-of : Reason a (ruleOf tolerances limit) (mostSteps a (ruleOf tolerances limit) m) (answer a m tolerances limit .answer) (historyOf a m tolerances limit)
+  reason-of = let p = passed a m tolerances limit z in rw (p .is-answer) (reason-at a (ruleOf tolerances limit) (p .value-above) m d (p .starts-finite))
 
-  pub value-true : (root y : Float) → answer a m eps limit .answer ≡ ByValue root y → (y ≡ value a root) × (lt (absolute y) eps ≡ true) × (finite root ≡ true)
+  pub value-true : (root y : Float) → answer a m tolerances limit .answer ≡ ByValue root y → (y ≡ value a root) × (lt (absolute y) (tolerances .value) ≡ true) × (finite root ≡ true)
   unfolding foundAt
   value-true root y e = reason-value (rw e at reason-of)
 
-  pub width-true : (root p q : Float) → answer a m eps limit .answer ≡ ByWidth root p q → (lt (absolute (sub binary64 p q)) eps ≡ true) × (finite root ≡ true)
+  pub width-true : (root p q : Float) → answer a m tolerances limit .answer ≡ ByWidth root p q → (lt (absolute (sub binary64 p q)) (tolerances .point) ≡ true) × (finite root ≡ true)
   unfolding convergedAt
   width-true root p q e = reason-width (rw e at reason-of)
 
-  pub late-number : (n : ℕ) → answer a m eps limit .answer ≡ Refused n → (6 ≤ n) × (n ≤ 9)
+  pub late-number : (n : ℕ) → answer a m tolerances limit .answer ≡ Refused n → (6 ≤ n) × (n ≤ 9)
   late-number n e = reason-number (rw e at reason-of)
 
   module _ (u v : Float) (s : Bracketed m u v) where
-    pub bracket-of : Bracket a (ruleOf eps limit) u v (answer a m eps limit .answer) (historyOf a m eps limit)
-    bracket-of = let p = passed a m eps limit z in rw (p .is-answer) (at-answer a _ (bracket-at a (ruleOf eps limit) (p .eps-above) m u v s d (p .starts-finite)))
+    pub bracket-of : Bracket a (ruleOf tolerances limit) u v (answer a m tolerances limit .answer) (historyOf a m tolerances limit)
+    bracket-of = let p = passed a m tolerances limit z in rw (p .is-answer) (at-answer a _ (bracket-at a (ruleOf tolerances limit) (p .value-above) m u v s d (p .starts-finite)))
 
-    pub six-told : answer a m eps limit .answer ≡ Refused 6 → sameSign (value a u) (value a v) ≡ true
+    pub six-told : answer a m tolerances limit .answer ≡ Refused 6 → sameSign (value a u) (value a v) ≡ true
     six-told e = subst (λ (x : Answer). Told a u v x) e (bracket-of .told) .0 refl

@@ -10,7 +10,7 @@ use lib.Ieee.{Float, lt}
 use Rattle.doubles.specs.Doubles.{absolute, sameSign}
 use Rattle.numerical.specs.declared.Answer.{Answer}
 use Rattle.numerical.specs.declared.Answer.the-variants.{ByWidth, Refused}
-use Rattle.simple_convergency.specs.Stop.{foundAt}
+use Rattle.simple_convergency.specs.Stop.{flatAt}
 use Rattle.simple_convergency.specs.declared.StopRule.{StopRule}
 use Rattle.polynom.specs.Polynom.{value}
 use Rattle.searching.specs.Brackets.{pairsIn}
@@ -26,6 +26,7 @@ use Rattle.regula_falsi.specs.RegulaFalsiTraces.{regula-falsi-traced}
 use Rattle.secant.specs.SecantTraces.{secant-ordered}
 use Rattle.newton_raphson.specs.NewtonRaphsonTraces.{newton-raphson-ordered}
 use Rattle.polynom_search.specs.PolynomSearchTraces.{polynom-search-traced}
+use Rattle.simple_convergency.specs.declared.Tolerances.{Tolerances}
 use Rattle.roots.specs.Calls.{startsOf, answer}
 use Rattle.roots.specs.declared.Method.{Method}
 use Rattle.roots.specs.declared.Method.the-variants.{Brent, RegulaFalsi, Secant, NewtonRaphson, Polynom}
@@ -56,80 +57,80 @@ module _ (a : List Float) (stop : StopRule) where
 -- ---- 7
 
 -- the flatness test that held is the newest event, and the method says of what it is
-flat-found : (eps : Float) (limit : ℕ) (m : Method) (y : Float) (h : List Event) → foundAt (ruleOf eps limit) y ≡ true → followsOf m (noted (tested (flat y) true)) h → Flat eps m (noted (tested (flat y) true) ∷ h)
-unfolding foundAt evaluationsIn
-flat-found eps limit (Brent from to) y h e l = absurd l
-flat-found eps limit (RegulaFalsi from to) y h e l = absurd l
-flat-found eps limit (Secant first second) y h e (p, q, s, d) = (p, q, s, subst (λ (z : Float). lt (absolute z) eps ≡ true) d e)
-flat-found eps limit (NewtonRaphson start) y h e (v, s, d) = (v, s, subst (λ (z : Float). lt (absolute z) eps ≡ true) d e)
-flat-found eps limit (Polynom from to) y h e l = absurd l
+flat-found : (tolerances : Tolerances) (limit : ℕ) (m : Method) (y : Float) (h : List Event) → flatAt (ruleOf tolerances limit) y ≡ true → followsOf m (noted (tested (flat y) true)) h → Flat tolerances m (noted (tested (flat y) true) ∷ h)
+unfolding flatAt evaluationsIn
+flat-found tolerances limit (Brent from to) y h e l = absurd l
+flat-found tolerances limit (RegulaFalsi from to) y h e l = absurd l
+flat-found tolerances limit (Secant first second) y h e (p, q, s, d) = (p, q, s, subst (λ (z : Float). lt (absolute z) (tolerances .value) ≡ true) d e)
+flat-found tolerances limit (NewtonRaphson start) y h e (v, s, d) = (v, s, subst (λ (z : Float). lt (absolute z) (tolerances .value) ≡ true) d e)
+flat-found tolerances limit (Polynom from to) y h e l = absurd l
 
 flat-reason :
-    {a : List Float} (eps : Float) (limit : ℕ) (m : Method) {most n : ℕ} {h : List Event} → n ≡ 7 → Reason a (ruleOf eps limit) most (Refused n) h → Each (followsOf m) h → Flat eps m h
-flat-reason eps limit m z (of-signs t u e q) l = absurd (omega (arith, z))
-flat-reason eps limit m z (of-flatness t e q) l = flat-found eps limit m _ _ e (l .0)
-flat-reason eps limit m z (of-limit e q) l = absurd (omega (arith, z))
-flat-reason eps limit m z (of-value f e q) l = absurd (omega (arith, z))
-flat-reason eps limit m z (of-derivative f e q) l = absurd (omega (arith, z))
-flat-reason eps limit m z (of-candidate e q) l = absurd (omega (arith, z))
-flat-reason eps limit m z (of-middle e f q) l = absurd (omega (arith, z))
+    {a : List Float} (tolerances : Tolerances) (limit : ℕ) (m : Method) {most n : ℕ} {h : List Event} → n ≡ 7 → Reason a (ruleOf tolerances limit) most (Refused n) h → Each (followsOf m) h → Flat tolerances m h
+flat-reason tolerances limit m z (of-signs t u e q) l = absurd (omega (arith, z))
+flat-reason tolerances limit m z (of-flatness t e q) l = flat-found tolerances limit m _ _ e (l .0)
+flat-reason tolerances limit m z (of-limit e q) l = absurd (omega (arith, z))
+flat-reason tolerances limit m z (of-value f e q) l = absurd (omega (arith, z))
+flat-reason tolerances limit m z (of-derivative f e q) l = absurd (omega (arith, z))
+flat-reason tolerances limit m z (of-candidate e q) l = absurd (omega (arith, z))
+flat-reason tolerances limit m z (of-middle e f q) l = absurd (omega (arith, z))
 
 -- ---- of every call that passes 1 to 5
 
-module _ (a : List Float) (m : Method) (eps : Float) (limit : ℕ) (z : atOnce a m eps limit ≡ 0) where
-  told : answer a m eps limit ≡ answerOf a (programOf (ruleOf eps limit) m)
-  told = passed a m eps limit z .is-answer
+module _ (a : List Float) (m : Method) (tolerances : Tolerances) (limit : ℕ) (z : atOnce a m tolerances limit ≡ 0) where
+  told : answer a m tolerances limit ≡ answerOf a (programOf (ruleOf tolerances limit) m)
+  told = passed a m tolerances limit z .is-answer
 
-  ordered-of : Ordered (followsOf m) (givesOf m) (answer a m eps limit .answer) (historyOf a m eps limit)
-  ordered-of = rw told (at-answer a _ (ordered-at a (ruleOf eps limit) m))
+  ordered-of : Ordered (followsOf m) (givesOf m) (answer a m tolerances limit .answer) (historyOf a m tolerances limit)
+  ordered-of = rw told (at-answer a _ (ordered-at a (ruleOf tolerances limit) m))
 
-  pub events-of : Each (followsOf m) (historyOf a m eps limit)
+  pub events-of : Each (followsOf m) (historyOf a m tolerances limit)
   events-of = ordered-of .each
 
-  pub width-of : (root p q : Float) → answer a m eps limit .answer ≡ ByWidth root p q → givesOf m root p q (historyOf a m eps limit)
-  width-of root p q e = subst (λ (x : Answer). Width (givesOf m) x (historyOf a m eps limit)) e (ordered-of .width)
+  pub width-of : (root p q : Float) → answer a m tolerances limit .answer ≡ ByWidth root p q → givesOf m root p q (historyOf a m tolerances limit)
+  width-of root p q e = subst (λ (x : Answer). Width (givesOf m) x (historyOf a m tolerances limit)) e (ordered-of .width)
 
-  pub values-listed : answer a m eps limit .progress .tally .values .0 ≡ length (evaluationsIn (historyOf a m eps limit))
+  pub values-listed : answer a m tolerances limit .progress .tally .values .0 ≡ length (evaluationsIn (historyOf a m tolerances limit))
   unfolding counted
-  values-listed = rw (counts-of a m eps limit z) (values-are (historyOf a m eps limit))
+  values-listed = rw (counts-of a m tolerances limit z) (values-are (historyOf a m tolerances limit))
 
-  mark-most : markIn (historyOf a m eps limit) ≤ 2 → answer a m eps limit .progress .mark ≤ 2
+  mark-most : markIn (historyOf a m tolerances limit) ≤ 2 → answer a m tolerances limit .progress .mark ≤ 2
   unfolding counted
-  mark-most l = rw (counts-of a m eps limit z) l
+  mark-most l = rw (counts-of a m tolerances limit z) l
 
   module _ (u v : Float) (s : Bracketed m u v) where
-    traced-of : Traced (followsOf m) (givesOf m) (answer a m eps limit .answer) (historyOf a m eps limit)
-    traced-of = rw told (at-answer a _ (traced-at a (ruleOf eps limit) m u v s))
+    traced-of : Traced (followsOf m) (givesOf m) (answer a m tolerances limit .answer) (historyOf a m tolerances limit)
+    traced-of = rw told (at-answer a _ (traced-at a (ruleOf tolerances limit) m u v s))
 
-    pub pairs-there : signsMissed (historyOf a m eps limit) ≡ true → length (pairsIn (historyOf a m eps limit)) ≡ answer a m eps limit .progress .tally .steps .0 + 1
+    pub pairs-there : signsMissed (historyOf a m tolerances limit) ≡ true → length (pairsIn (historyOf a m tolerances limit)) ≡ answer a m tolerances limit .progress .tally .steps .0 + 1
     unfolding counted
-    pairs-there e = rw (counts-of a m eps limit z) (traced-of .with-pairs e)
+    pairs-there e = rw (counts-of a m tolerances limit z) (traced-of .with-pairs e)
 
-    pub pairs-none : signsMissed (historyOf a m eps limit) ≡ false → (pairsIn (historyOf a m eps limit) ≡ []) × (stepsIn (historyOf a m eps limit) ≡ 0) × BeforePairs (answer a m eps limit .answer)
+    pub pairs-none : signsMissed (historyOf a m tolerances limit) ≡ false → (pairsIn (historyOf a m tolerances limit) ≡ []) × (stepsIn (historyOf a m tolerances limit) ≡ 0) × BeforePairs (answer a m tolerances limit .answer)
     pairs-none = traced-of .without
 
   module _ (d : Held (startsOf m)) where
-    pub flat-of : answer a m eps limit .answer ≡ Refused 7 → Flat eps m (historyOf a m eps limit)
-    flat-of e = flat-reason eps limit m refl (rw e at (reason-of a m eps limit z d)) events-of
+    pub flat-of : answer a m tolerances limit .answer ≡ Refused 7 → Flat tolerances m (historyOf a m tolerances limit)
+    flat-of e = flat-reason tolerances limit m refl (rw e at (reason-of a m tolerances limit z d)) events-of
 
 -- rules 1 and 2 are all that is noted
 known-rule : (rule : ℕ) (departed : Bool) (h : List Event) → Rules rule departed h → (rule ≡ 1) ⊎ (rule ≡ 2)
 known-rule rule departed h (inl e) = inl e
 known-rule rule departed h (inr t) = inr (t .0)
 
-pub marks-of : (a : List Float) (m : Method) (eps : Float) (limit : ℕ) → atOnce a m eps limit ≡ 0 → Marks m (answer a m eps limit .progress .mark)
-marks-of a (Brent from to) eps limit z = mark-most a _ eps limit z (mark-known _ known-rule _ (events-of a (Brent from to) eps limit z))
-marks-of a (RegulaFalsi from to) eps limit z = two-marks a from to eps limit
-marks-of a (Secant first second) eps limit z = plain-secant a first second eps limit .0
-marks-of a (NewtonRaphson start) eps limit z = plain-newton a start eps limit .0
-marks-of a (Polynom from to) eps limit z = mark-most a _ eps limit z (mark-known _ known-rule _ (events-of a (Polynom from to) eps limit z))
+pub marks-of : (a : List Float) (m : Method) (tolerances : Tolerances) (limit : ℕ) → atOnce a m tolerances limit ≡ 0 → Marks m (answer a m tolerances limit .progress .mark)
+marks-of a (Brent from to) tolerances limit z = mark-most a _ tolerances limit z (mark-known _ known-rule _ (events-of a (Brent from to) tolerances limit z))
+marks-of a (RegulaFalsi from to) tolerances limit z = two-marks a from to tolerances limit
+marks-of a (Secant first second) tolerances limit z = plain-secant a first second tolerances limit .0
+marks-of a (NewtonRaphson start) tolerances limit z = plain-newton a start tolerances limit .0
+marks-of a (Polynom from to) tolerances limit z = mark-most a _ tolerances limit z (mark-known _ known-rule _ (events-of a (Polynom from to) tolerances limit z))
 
 -- 6 is of a bracketing method, and of the values at its starts
 pub six-of :
-    (a : List Float) (m : Method) (eps : Float) (limit : ℕ) → atOnce a m eps limit ≡ 0 → Held (startsOf m) → answer a m eps limit .answer ≡ Refused 6 →
+    (a : List Float) (m : Method) (tolerances : Tolerances) (limit : ℕ) → atOnce a m tolerances limit ≡ 0 → Held (startsOf m) → answer a m tolerances limit .answer ≡ Refused 6 →
     (u : Float) × (v : Float) × Bracketed m u v × (sameSign (value a u) (value a v) ≡ true)
-six-of a (Brent from to) eps limit z d e = (from, to, (refl, refl), six-told a (Brent from to) eps limit z d from to (refl, refl) e)
-six-of a (RegulaFalsi from to) eps limit z d e = (from, to, (refl, refl), six-told a (RegulaFalsi from to) eps limit z d from to (refl, refl) e)
-six-of a (Secant first second) eps limit z d e = absurd (plain-secant a first second eps limit .1 e)
-six-of a (NewtonRaphson start) eps limit z d e = absurd (plain-newton a start eps limit .1 e)
-six-of a (Polynom from to) eps limit z d e = (from, to, (refl, refl), six-told a (Polynom from to) eps limit z d from to (refl, refl) e)
+six-of a (Brent from to) tolerances limit z d e = (from, to, (refl, refl), six-told a (Brent from to) tolerances limit z d from to (refl, refl) e)
+six-of a (RegulaFalsi from to) tolerances limit z d e = (from, to, (refl, refl), six-told a (RegulaFalsi from to) tolerances limit z d from to (refl, refl) e)
+six-of a (Secant first second) tolerances limit z d e = absurd (plain-secant a first second tolerances limit .1 e)
+six-of a (NewtonRaphson start) tolerances limit z d e = absurd (plain-newton a start tolerances limit .1 e)
+six-of a (Polynom from to) tolerances limit z d e = (from, to, (refl, refl), six-told a (Polynom from to) tolerances limit z d from to (refl, refl) e)

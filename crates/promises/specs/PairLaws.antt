@@ -12,6 +12,7 @@ use Rattle.numerical.specs.declared.Answer.the-variants.{ByValue, ByWidth}
 use Rattle.numerical.specs.declared.Interval.{Interval}
 use Rattle.searching.specs.BracketLaws.{ends-fit, newest-backed, newest-in}
 use Rattle.searching.specs.Brackets.{pairsIn, Backed, Narrows, no-pair, first-pair, next-pair, Told}
+use Rattle.simple_convergency.specs.declared.Tolerances.{Tolerances}
 use Rattle.roots.specs.Calls.{allFinite, startsOf, answer}
 use Rattle.roots.specs.declared.Method.{Method}
 use Rattle.roots.specs.declared.Method.the-variants.{Brent, RegulaFalsi, Secant, NewtonRaphson, Polynom}
@@ -37,12 +38,12 @@ module _ {a : List Float} {u v : Float} (du : Double u) (dv : Double v) where
     by-order l,
   )
 
-module _ (a : List Float) (m : Method) (eps : Float) (limit : ℕ) (z : atOnce a m eps limit ≡ 0) (d : Held (startsOf m)) (u v : Float) (s : Bracketed m u v) where
-  pub pairs-of : Narrows a u v (pairsIn (historyOf a m eps limit))
-  pairs-of = bracket-of a m eps limit z d u v s .narrows
+module _ (a : List Float) (m : Method) (tolerances : Tolerances) (limit : ℕ) (z : atOnce a m tolerances limit ≡ 0) (d : Held (startsOf m)) (u v : Float) (s : Bracketed m u v) where
+  pub pairs-of : Narrows a u v (pairsIn (historyOf a m tolerances limit))
+  pairs-of = bracket-of a m tolerances limit z d u v s .narrows
 
   start-doubles : Double u × Double v
-  start-doubles = go m s d (passed a m eps limit z .starts-finite)
+  start-doubles = go m s d (passed a m tolerances limit z .starts-finite)
     where
       go : (m : Method) → Bracketed m u v → Held (startsOf m) → allFinite (startsOf m) ≡ true → Double u × Double v
       go (Brent from to) s d e = rw (← s .0, ← s .1) (two-doubles from to d e)
@@ -54,11 +55,11 @@ module _ (a : List Float) (m : Method) (eps : Float) (limit : ℕ) (z : atOnce a
   between : (root : Float) → Inside u v root × Double root → BetweenZ (orderOf u) (orderOf v) (orderOf root)
   between root t = inside-order u v root (start-doubles .0) (start-doubles .1) (t .1) .0 (t .0)
 
-  pub root-by-value : (root y : Float) → answer a m eps limit .answer ≡ ByValue root y → BetweenZ (orderOf u) (orderOf v) (orderOf root)
-  root-by-value root y e = between root (subst (λ (x : Answer). Told a u v x) e (bracket-of a m eps limit z d u v s .told))
+  pub root-by-value : (root y : Float) → answer a m tolerances limit .answer ≡ ByValue root y → BetweenZ (orderOf u) (orderOf v) (orderOf root)
+  root-by-value root y e = between root (subst (λ (x : Answer). Told a u v x) e (bracket-of a m tolerances limit z d u v s .told))
 
-  pub root-by-width : (root p q : Float) → answer a m eps limit .answer ≡ ByWidth root p q → BetweenZ (orderOf u) (orderOf v) (orderOf root)
-  root-by-width root p q e = between root (subst (λ (x : Answer). Told a u v x) e (bracket-of a m eps limit z d u v s .told))
+  pub root-by-width : (root p q : Float) → answer a m tolerances limit .answer ≡ ByWidth root p q → BetweenZ (orderOf u) (orderOf v) (orderOf root)
+  root-by-width root p q e = between root (subst (λ (x : Answer). Told a u v x) e (bracket-of a m tolerances limit z d u v s .told))
 
-  pub pairs-nested : NestedByOrder u v (pairsIn (historyOf a m eps limit))
+  pub pairs-nested : NestedByOrder u v (pairsIn (historyOf a m tolerances limit))
   pairs-nested = by-order (start-doubles .0) (start-doubles .1) pairs-of

@@ -18,7 +18,7 @@ use Rattle.roots.proofs.Method as the-method
 use Rattle.roots.specs.Calls.{startsOf}
 use Rattle.roots.specs.declared.Method.{Method}
 use Rattle.roots.specs.declared.Method.the-variants.{Brent, RegulaFalsi, Secant, NewtonRaphson, Polynom}
-use Rattle.simple_convergency.specs.Stop.{mostCoefficients}
+use Rattle.simple_convergency.specs.Stop.{mostCoefficients, tolerancesOf}
 use Rattle.rows.specs.Layouts as rows
 use Rattle.rows.specs.Layouts.{spell, Read, held, wrong, read, Row}
 use Rattle.rows.specs.LayoutLaws.{wrong-held, row-fits, fits-row, row-only, row-back, none-right, none-otherwise}
@@ -43,8 +43,8 @@ use Rattle.roots_c.specs.declared.Chosen.{Chosen}
 use Rattle.roots_c.specs.declared.Chosen.the-variants.{Known}
 use Rattle.records.proofs.read.Kinds as read-kinds
 use Rattle.records.proofs.read.Reads as read-reads
-use Rattle.records.specs.Records.{rowOf, recordLayout, recordable, bytesOf, writtenTo, leftBy, told, blank, readingOf}
-use Rattle.records.specs.RoundLaws.{Held, Sound, Right, trimmed, row-right, right-row}
+use Rattle.records.specs.Records.{rowOf, recordLayout, recordable, longestRecord, bytesOf, writtenTo, leftBy, told, blank, readingOf}
+use Rattle.records.specs.RoundLaws.{Held, Sound, Right, trimmed, row-right, right-row, recordable-parts, parts-recordable}
 use Rattle.records.specs.WriteLaws.{eleven, ten, enough}
 use Rattle.records.specs.BackLaws as back
 use Rattle.records.specs.declared.Record.{Record}
@@ -53,10 +53,6 @@ use Rattle.records.specs.declared.Verdict.{Verdict}
 use Rattle.records.specs.declared.Verdict.the-variants as verdict
 use Rattle.promises.specs.Returned.{Numbered, brent, illinois, secant, newton, polynom}
 use Rattle.promises.specs.RecordLaws.{Recordable, recordable-if, if-recordable}
-
--- the constant: no record is longer
-abbrev pub longestRecord : ℕ
-longestRecord = 256
 
 -- ---- writing
 
@@ -130,10 +126,10 @@ module _ (o : Record) (s : Sound o) (before : List ℕ) where
 
   module _ (e : recordable o ≡ true) where
     right : Row recordLayout (rowOf o) (trimmed o)
-    right = let r = fits-row recordLayout (rowOf o) e in subst (Row recordLayout (rowOf o)) (sym (row-right o s (r .1) .1)) (r .1)
+    right = let p = recordable-parts o e in let r = fits-row recordLayout (rowOf o) (p .1) in subst (Row recordLayout (rowOf o)) (sym (row-right o s (p .0) (r .1) .1)) (r .1)
 
     short : length (bytesOf o) ≤ longestRecord
-    short = back.at-most-256 right
+    short = back.at-most-longest right
 
     too-short : length before < length (bytesOf o) → Writes o before (verdict.Refused 10) before
     too-short h =
@@ -192,7 +188,7 @@ module _ (s : List ℕ) where
   none-read : read recordLayout s ≡ wrong → Reads s (record { verdict = verdict.Refused 11; content = blank })
   none-read e =
       record {
-        eleven-exactly = (λ q w. none-right recordLayout s e (rowOf (w .0)) (w .1) (if-recordable (w .0) (w .2) (w .3)) (w .4), λ w. refl);
+        eleven-exactly = (λ q w. none-right recordLayout s e (rowOf (w .0)) (w .1) (recordable-parts (w .0) (if-recordable (w .0) (w .2) (w .3)) .1) (w .4), λ w. refl);
         only-eleven = λ n q. sym (refused-one q);
         all-zero = λ n q. refl;
         is-record = λ n q. refused-bytes q;
@@ -220,7 +216,7 @@ module _ (s : List ℕ) where
     as-long = let a = ap length own-bytes ∙ length-append (bytesOf o) t in omega arith
 
     fits-it : recordable o ≡ true
-    fits-it = row-fits own-right
+    fits-it = parts-recordable o (back.row-both own-right) (row-fits own-right)
 
     own-sound : Sound o
     own-sound = back.row-sound own-right
@@ -251,7 +247,7 @@ module _ (s : List ℕ) where
           its-length = λ n q. sym (bytes-one q) ∙ as-long;
           none-behind = λ n q. again n (bytes-one q);
           writes-back = λ n q. written-back n (bytes-one q);
-          no-longer = λ n q. let a = back.at-most-256 own-right in let b = as-long in let c = bytes-one q in omega arith;
+          no-longer = λ n q. let a = back.at-most-longest own-right in let b = as-long in let c = bytes-one q in omega arith;
         }
 
   pub reads : Reads s (readingOf s)
@@ -289,24 +285,29 @@ held-numbers (ByWidth root x y) vals p = (of-true _ (p .1 .1 .1 .1 .0 .1), (of-t
 held-numbers (Refused n) vals p = tt
 
 module _ (κs : Lfts 1) (args : Dens κs write-kinds.ps) (g : GoodsP κs write-kinds.ps args) where
-  eps-held : fits binary64 (args .0 .eps) ≡ true
-  eps-held = search (g .0)
+  value-held : fits binary64 (args .0 .tolerances .value) ≡ true
+  value-held = search (g .0)
+
+  point-held : fits binary64 (args .0 .tolerances .point) ≡ true
+  point-held = search (g .0)
 
   coefficients-held : Held (args .0 .coefficients)
-  coefficients-held = held-each (args .0 .coefficients) _ (subst (λ (l : List Float). shadow (each Float (denote.Struct.Field.f64-field .row .own) l (g .0 .1 .1 .0 .0))) (map-id (args .0 .coefficients)) (g .0 .1 .1 .0 .1 .1))
+  coefficients-held = held-each (args .0 .coefficients) _ (subst (λ (l : List Float). shadow (each Float (denote.Struct.Field.f64-field .row .own) l (g .0 .1 .1 .1 .0 .0))) (map-id (args .0 .coefficients)) (g .0 .1 .1 .1 .0 .1 .1))
 
   sound-args : Sound (args .0)
   sound-args =
       record {
-        all = length-unmapped Float (args .0 .coefficients) 16 (g .0 .1 .1 .0 .1 .0 .1);
+        kind = search (g .0);
+        all = length-unmapped Float (args .0 .coefficients) 16 (g .0 .1 .1 .1 .0 .1 .0 .1);
         coefficients = held-front (args .0 .count) (args .0 .coefficients) coefficients-held;
-        starts = held-starts (args .0 .method) _ (g .0 .1 .1 .1 .1 .0);
-        eps = of-true _ eps-held;
+        starts = held-starts (args .0 .method) _ (g .0 .1 .1 .1 .1 .1 .0);
+        value-tolerance = of-true _ value-held;
+        point-tolerance = of-true _ point-held;
         limit = search (g .0);
-        numbers = held-numbers (args .0 .outcome .answer) _ (g .0 .1 .1 .1 .1 .1 .1 .1 .0 .1 .1 .0);
-        steps = search (g .0);
-        values = search (g .0);
-        derivatives = search (g .0 .1 .1 .1 .1 .1 .1 .1 .0 .1 .1 .1 .0);
+        numbers = held-numbers (args .0 .outcome .answer) _ (g .0 .1 .1 .1 .1 .1 .1 .1 .1 .0 .1 .1 .0);
+        steps = search (g .0 .1 .1 .1 .1 .1 .1 .1 .1 .0 .1 .1 .1 .0);
+        values = search (g .0 .1 .1 .1 .1 .1 .1 .1 .1 .0 .1 .1 .1 .0);
+        derivatives = search (g .0 .1 .1 .1 .1 .1 .1 .1 .1 .0 .1 .1 .1 .0);
       }
 
 pub write-keeps :
@@ -338,19 +339,19 @@ chosen-is polynom = refl
 -- That what is handed over are doubles, and numbers of 64 bits, is asked: the language tells it of an f64 and a u64, and not of those in a lent slice.
 pub roots-record-write-keeps :
     (κs : Lfts 5) (args : Dens κs c-write-kinds.ps) (refusal : ℕ) (last : AtExit (endedOf 5 c-write-kinds.ps c-write-kinds.r) κs) → c-write-reads.Learnt κs args refusal last →
-    (m : Method) → Numbered (args .1 .1 .0) (args .1 .1 .1 .0) (args .1 .0) m →
-    Sound (recordFrom (now (args .0)) m (args .1 .1 .1 .1 .0) (args .1 .1 .1 .1 .1 .0) (outcomeFrom (args .1 .1 .1 .1 .1 .1 .0) (now (args .1 .1 .1 .1 .1 .1 .1 .0)) (now (args .1 .1 .1 .1 .1 .1 .1 .1 .0)))) →
+    (m : Method) → Numbered (args .1 .1 .1 .0) (args .1 .1 .1 .1 .0) (args .1 .1 .0) m →
+    Sound (recordFrom (args .0) (now (args .1 .0)) m (tolerancesOf (args .1 .1 .1 .1 .1 .0) (args .1 .1 .1 .1 .1 .1 .0)) (args .1 .1 .1 .1 .1 .1 .1 .0) (outcomeFrom (args .1 .1 .1 .1 .1 .1 .1 .1 .0) (now (args .1 .1 .1 .1 .1 .1 .1 .1 .1 .0)) (now (args .1 .1 .1 .1 .1 .1 .1 .1 .1 .1 .0)))) →
     (v : Verdict)
-    × Writes (recordFrom (now (args .0)) m (args .1 .1 .1 .1 .0) (args .1 .1 .1 .1 .1 .0) (outcomeFrom (args .1 .1 .1 .1 .1 .1 .0) (now (args .1 .1 .1 .1 .1 .1 .1 .0)) (now (args .1 .1 .1 .1 .1 .1 .1 .1 .0)))) (now (args .1 .1 .1 .1 .1 .1 .1 .1 .1 .0)) v (now (last .1 .1 .1 .1 .1 .1 .1 .1 .1 .0))
+    × Writes (recordFrom (args .0) (now (args .1 .0)) m (tolerancesOf (args .1 .1 .1 .1 .1 .0) (args .1 .1 .1 .1 .1 .1 .0)) (args .1 .1 .1 .1 .1 .1 .1 .0) (outcomeFrom (args .1 .1 .1 .1 .1 .1 .1 .1 .0) (now (args .1 .1 .1 .1 .1 .1 .1 .1 .1 .0)) (now (args .1 .1 .1 .1 .1 .1 .1 .1 .1 .1 .0)))) (now (args .1 .1 .1 .1 .1 .1 .1 .1 .1 .1 .1 .0)) v (now (last .1 .1 .1 .1 .1 .1 .1 .1 .1 .1 .1 .0))
     × (refusal ≡ refusalOf v)
-    × (now (last .1 .1 .1 .1 .1 .1 .1 .1 .1 .1 .0) ≡ bytesIn v)
+    × (now (last .1 .1 .1 .1 .1 .1 .1 .1 .1 .1 .1 .1 .0) ≡ bytesIn v)
 roots-record-write-keeps κs args refusal last allowed m b sound =
-    let before = now (args .1 .1 .1 .1 .1 .1 .1 .1 .1 .0) in
-    let o = recordFrom (now (args .0)) m (args .1 .1 .1 .1 .0) (args .1 .1 .1 .1 .1 .0) (outcomeFrom (args .1 .1 .1 .1 .1 .1 .0) (now (args .1 .1 .1 .1 .1 .1 .1 .0)) (now (args .1 .1 .1 .1 .1 .1 .1 .1 .0))) in (
+    let before = now (args .1 .1 .1 .1 .1 .1 .1 .1 .1 .1 .1 .0) in
+    let o = recordFrom (args .0) (now (args .1 .0)) m (tolerancesOf (args .1 .1 .1 .1 .1 .0) (args .1 .1 .1 .1 .1 .1 .0)) (args .1 .1 .1 .1 .1 .1 .1 .0) (outcomeFrom (args .1 .1 .1 .1 .1 .1 .1 .1 .0) (now (args .1 .1 .1 .1 .1 .1 .1 .1 .1 .0)) (now (args .1 .1 .1 .1 .1 .1 .1 .1 .1 .1 .0))) in (
       writtenTo o (length before),
-      subst (λ (l : List ℕ). Writes o before (writtenTo o (length before)) l) (sym (allowed .1 .0 ∙ ap (leftFor (now (args .0)) (args .1 .1 .1 .1 .0) (args .1 .1 .1 .1 .1 .0) (outcomeFrom (args .1 .1 .1 .1 .1 .1 .0) (now (args .1 .1 .1 .1 .1 .1 .1 .0)) (now (args .1 .1 .1 .1 .1 .1 .1 .1 .0))) before) (chosen-is b))) (writes o sound before),
-      allowed .0 ∙ ap (λ (c : Chosen). refusalOf (verdictFor (now (args .0)) (args .1 .1 .1 .1 .0) (args .1 .1 .1 .1 .1 .0) (outcomeFrom (args .1 .1 .1 .1 .1 .1 .0) (now (args .1 .1 .1 .1 .1 .1 .1 .0)) (now (args .1 .1 .1 .1 .1 .1 .1 .1 .0))) before c)) (chosen-is b),
-      allowed .1 .1 ∙ ap (λ (c : Chosen). bytesIn (verdictFor (now (args .0)) (args .1 .1 .1 .1 .0) (args .1 .1 .1 .1 .1 .0) (outcomeFrom (args .1 .1 .1 .1 .1 .1 .0) (now (args .1 .1 .1 .1 .1 .1 .1 .0)) (now (args .1 .1 .1 .1 .1 .1 .1 .1 .0))) before c)) (chosen-is b),
+      subst (λ (l : List ℕ). Writes o before (writtenTo o (length before)) l) (sym (allowed .1 .0 ∙ ap (leftFor (args .0) (now (args .1 .0)) (tolerancesOf (args .1 .1 .1 .1 .1 .0) (args .1 .1 .1 .1 .1 .1 .0)) (args .1 .1 .1 .1 .1 .1 .1 .0) (outcomeFrom (args .1 .1 .1 .1 .1 .1 .1 .1 .0) (now (args .1 .1 .1 .1 .1 .1 .1 .1 .1 .0)) (now (args .1 .1 .1 .1 .1 .1 .1 .1 .1 .1 .0))) before) (chosen-is b))) (writes o sound before),
+      allowed .0 ∙ ap (λ (c : Chosen). refusalOf (verdictFor (args .0) (now (args .1 .0)) (tolerancesOf (args .1 .1 .1 .1 .1 .0) (args .1 .1 .1 .1 .1 .1 .0)) (args .1 .1 .1 .1 .1 .1 .1 .0) (outcomeFrom (args .1 .1 .1 .1 .1 .1 .1 .1 .0) (now (args .1 .1 .1 .1 .1 .1 .1 .1 .1 .0)) (now (args .1 .1 .1 .1 .1 .1 .1 .1 .1 .1 .0))) before c)) (chosen-is b),
+      allowed .1 .1 ∙ ap (λ (c : Chosen). bytesIn (verdictFor (args .0) (now (args .1 .0)) (tolerancesOf (args .1 .1 .1 .1 .1 .0) (args .1 .1 .1 .1 .1 .1 .0)) (args .1 .1 .1 .1 .1 .1 .1 .0) (outcomeFrom (args .1 .1 .1 .1 .1 .1 .1 .1 .0) (now (args .1 .1 .1 .1 .1 .1 .1 .1 .1 .0)) (now (args .1 .1 .1 .1 .1 .1 .1 .1 .1 .1 .0))) before c)) (chosen-is b),
     )
 
 -- whatever the contract of `roots_record_read` allows: a reading that keeps its promises, in a refusal and five buffers
@@ -360,7 +361,7 @@ pub roots-record-read-keeps :
     × Reads (now (args .0)) r
     × (refusal ≡ refusalOf (r .verdict))
     × (now (last .1 .0) ≡ r .content .coefficients)
-    × (now (last .1 .1 .0) ≡ pointsOf (r .content .method) (r .content .eps))
+    × (now (last .1 .1 .0) ≡ pointsOf (r .content .method) (r .content .tolerances))
     × (now (last .1 .1 .1 .0) ≡ padded (numbersOf (r .content .outcome .answer)))
     × (now (last .1 .1 .1 .1 .0) ≡ countsOf (r .content .outcome .progress))
     × (now (last .1 .1 .1 .1 .1 .0) ≡ wordsOf (r .verdict) (r .content))

@@ -13,7 +13,7 @@ use Rattle.doubles.specs.Pairs.{BetweenZ}
 use Rattle.numerical.specs.declared.Answer.{Answer}
 use Rattle.numerical.specs.declared.Interval.{Interval}
 use Rattle.numerical.specs.declared.Sample.{Sample}
-use Rattle.simple_convergency.specs.Stop.{leastEps, greatestLimit, mostCoefficients, foundAt, turnsOf}
+use Rattle.simple_convergency.specs.Stop.{leastTolerance, greatestLimit, mostCoefficients, flatAt, turnsOf}
 use Rattle.simple_convergency.specs.declared.StopRule.{StopRule}
 use Rattle.polynom.specs.Polynom.{valueAndDerivative, evaluated, evaluatedBoth}
 use Rattle.polynom.specs.declared.ValueAndDerivative.{ValueAndDerivative}
@@ -30,6 +30,7 @@ use Rattle.regula_falsi.specs.RegulaFalsiEvents as illinois
 use Rattle.secant.specs.SecantEvents as secant
 use Rattle.newton_raphson.specs.NewtonRaphsonEvents as newton
 use Rattle.polynom_search.specs.PolynomSearchEvents as polynom
+use Rattle.simple_convergency.specs.declared.Tolerances.{Tolerances}
 use Rattle.roots.specs.Calls.{startsOf}
 use Rattle.roots.specs.declared.Method.{Method}
 use Rattle.roots.specs.declared.Method.the-variants.{Brent, RegulaFalsi, Secant, NewtonRaphson, Polynom}
@@ -43,8 +44,8 @@ programOf stop (Secant first second) = secantProgram stop first second
 programOf stop (NewtonRaphson start) = newtonProgram stop start
 programOf stop (Polynom from to) = polynomProgram stop from to
 
-abbrev pub historyOf : List Float → Method → Float → ℕ → List Event
-historyOf a m eps limit = history (oracle a) (programOf (ruleOf eps limit) m)
+abbrev pub historyOf : List Float → Method → Tolerances → ℕ → List Event
+historyOf a m tolerances limit = history (oracle a) (programOf (ruleOf tolerances limit) m)
 
 -- ---- refusals 1 to 5, in document 01's words
 
@@ -56,24 +57,28 @@ BadCount a = (length a ≡ 0) ⊎ (mostCoefficients < length a)
 abbrev pub SomeNotFinite : List Float → Type 0
 SomeNotFinite l = (x : Float) × List·Memᴰ x l × (finite x ≡ false)
 
--- 4: "eps isn't finite or is below 2^-300"
-abbrev pub BadEps : Float → Type 0
-BadEps eps = (finite eps ≡ false) ⊎ (lt eps leastEps ≡ true)
+-- a tolerance that "isn't finite or is below 2^-300"
+abbrev pub BadTolerance : Float → Type 0
+BadTolerance x = (finite x ≡ false) ⊎ (lt x leastTolerance ≡ true)
+
+-- "4 if either is bad"
+abbrev pub EitherBad : Tolerances → Type 0
+EitherBad tolerances = BadTolerance (tolerances .value) ⊎ BadTolerance (tolerances .point)
 
 -- "1 to 5 are checked in that order": the number that a call is refused with before any evaluation
-pub data Early (a : List Float) (m : Method) (eps : Float) (limit : ℕ) : ℕ → Type 0 where
-  one : BadCount a → Early a m eps limit 1
-  two : ¬ BadCount a → SomeNotFinite a → Early a m eps limit 2
-  three : ¬ BadCount a → ¬ SomeNotFinite a → SomeNotFinite (startsOf m) → Early a m eps limit 3
-  four : ¬ BadCount a → ¬ SomeNotFinite a → ¬ SomeNotFinite (startsOf m) → BadEps eps → Early a m eps limit 4
-  five : ¬ BadCount a → ¬ SomeNotFinite a → ¬ SomeNotFinite (startsOf m) → ¬ BadEps eps → greatestLimit < limit → Early a m eps limit 5
+pub data Early (a : List Float) (m : Method) (tolerances : Tolerances) (limit : ℕ) : ℕ → Type 0 where
+  one : BadCount a → Early a m tolerances limit 1
+  two : ¬ BadCount a → SomeNotFinite a → Early a m tolerances limit 2
+  three : ¬ BadCount a → ¬ SomeNotFinite a → SomeNotFinite (startsOf m) → Early a m tolerances limit 3
+  four : ¬ BadCount a → ¬ SomeNotFinite a → ¬ SomeNotFinite (startsOf m) → EitherBad tolerances → Early a m tolerances limit 4
+  five : ¬ BadCount a → ¬ SomeNotFinite a → ¬ SomeNotFinite (startsOf m) → ¬ EitherBad tolerances → greatestLimit < limit → Early a m tolerances limit 5
 
 -- a call that none of the five refuses
-pub record Passes (a : List Float) (m : Method) (eps : Float) (limit : ℕ) : Type 0 where
+pub record Passes (a : List Float) (m : Method) (tolerances : Tolerances) (limit : ℕ) : Type 0 where
   pub good-count : ¬ BadCount a
   pub good-coefficients : ¬ SomeNotFinite a
   pub good-starts : ¬ SomeNotFinite (startsOf m)
-  pub good-eps : ¬ BadEps eps
+  pub good-tolerances : ¬ EitherBad tolerances
   pub good-limit : ¬ (greatestLimit < limit)
 
 -- the numbers given are doubles: values of the format, as every f64 is
@@ -86,7 +91,7 @@ abbrev pub mostSteps : List Float → StopRule → Method → ℕ
 mostSteps a stop (Brent from to) = turnsOf stop
 mostSteps a stop (RegulaFalsi from to) = turnsOf stop
 mostSteps a stop (Secant first second) = turnsOf stop
-mostSteps a stop (NewtonRaphson start) = cond (foundAt stop (valueAndDerivative a start .derivative)) (max 2 (stop .limit)) (max 1 (stop .limit))
+mostSteps a stop (NewtonRaphson start) = cond (flatAt stop (valueAndDerivative a start .derivative)) (max 2 (stop .limit)) (max 1 (stop .limit))
 mostSteps a stop (Polynom from to) = turnsOf stop
 
 -- ---- what a method's events are, and what its answers give
@@ -108,12 +113,12 @@ givesOf (NewtonRaphson start) = newton.Gives
 givesOf (Polynom from to) = polynom.Gives
 
 -- 7: secant's last two values are too close, or Newton's derivative at the last point evaluated is too small; the others have none
-abbrev pub Flat : Float → Method → List Event → Type 0
-Flat eps (Brent from to) h = ⊥
-Flat eps (RegulaFalsi from to) h = ⊥
-Flat eps (Secant first second) h = (p : Sample) × (q : Sample) × SampledTwo p q h × (lt (absolute (sub binary64 (p .y) (q .y))) eps ≡ true)
-Flat eps (NewtonRaphson start) h = (v : ValueAndDerivative) × SampledBoth v h × (lt (absolute (v .derivative)) eps ≡ true)
-Flat eps (Polynom from to) h = ⊥
+abbrev pub Flat : Tolerances → Method → List Event → Type 0
+Flat tolerances (Brent from to) h = ⊥
+Flat tolerances (RegulaFalsi from to) h = ⊥
+Flat tolerances (Secant first second) h = (p : Sample) × (q : Sample) × SampledTwo p q h × (lt (absolute (sub binary64 (p .y) (q .y))) (tolerances .value) ≡ true)
+Flat tolerances (NewtonRaphson start) h = (v : ValueAndDerivative) × SampledBoth v h × (lt (absolute (v .derivative)) (tolerances .value) ≡ true)
+Flat tolerances (Polynom from to) h = ⊥
 
 -- the marks that a method can have
 abbrev pub Marks : Method → ℕ → Type 0

@@ -4,6 +4,7 @@
 ghost use mathlib.Core.Path.{_≡_};
 ghost use Prim.Native.Nat.{_≤_};
 ghost use lib.ListN.{length};
+ghost use Rattle.record_text.specs.RecordTexts.{longestReply};
 ghost use Rattle.line_text.specs.Inputs.{Begun, lineOf, nextLine};
 use libc::STDIN_FILENO;
 use libc::STDOUT_FILENO;
@@ -17,7 +18,7 @@ struct Turn {
 
 // Writes the reply to a line.
 fn reply(line: &[u8], is_long: bool, out: &mut [u8]) -> bool
-    requires { ⌜ 513 ≤ length (now out) ⌝ }
+    requires { ⌜ longestReply ≤ length (now out) ⌝ }
 {
     let end = record_text::reply::put_line(line, is_long, out, 0);
     io::write_all(STDOUT_FILENO, &out[..end])
@@ -25,7 +26,7 @@ fn reply(line: &[u8], is_long: bool, out: &mut [u8]) -> bool
 
 // One more byte: a line's end has its reply written, any other byte is kept if there is room.
 fn taken(line: &mut [u8], out: &mut [u8], s: State, b: u8) -> Turn
-    requires { ⌜ (s .kept ≤ length (now line)) × (513 ≤ length (now out)) ⌝ }
+    requires { ⌜ (s .kept ≤ length (now line)) × (longestReply ≤ length (now out)) ⌝ }
     ensures { λ r. ⌜ r .state .kept ≤ length (now (line .exit)) ⌝ }
     ensures { λ r. ⌜ lineOf (now (line .exit)) (r .state) ≡ nextLine (length (now (line .entry))) (lineOf (now (line .entry)) s) b ⌝ }
 {
@@ -65,7 +66,7 @@ fn taken(line: &mut [u8], out: &mut [u8], s: State, b: u8) -> Turn
 
 // Answers the lines of a block.
 fn answered(block: &[u8], line: &mut [u8], out: &mut [u8], start: State) -> Turn
-    requires { ⌜ (start .kept ≤ length (now line)) × (513 ≤ length (now out)) ⌝ }
+    requires { ⌜ (start .kept ≤ length (now line)) × (longestReply ≤ length (now out)) ⌝ }
     ensures { λ r. ⌜ r .state .kept ≤ length (now (line .exit)) ⌝ }
     ensures { λ r. ⌜ Begun (now (block .entry)) (now (line .entry)) start (now (line .exit)) (r .«is_open») (r .state) ⌝ }
 {
@@ -90,7 +91,7 @@ fn answered(block: &[u8], line: &mut [u8], out: &mut [u8], start: State) -> Turn
 
 // At the input's end: the last line may lack its line feed.
 fn closed(line: &[u8], out: &mut [u8], s: State) -> Turn
-    requires { ⌜ (s .kept ≤ length (now line)) × (513 ≤ length (now out)) ⌝ }
+    requires { ⌜ (s .kept ≤ length (now line)) × (longestReply ≤ length (now out)) ⌝ }
     ensures { λ r. ⌜ r .state .kept ≤ length (now (line .entry)) ⌝ }
 {
     let kept = s.kept;
@@ -105,7 +106,7 @@ fn closed(line: &[u8], out: &mut [u8], s: State) -> Turn
 
 // Reads a block and answers its lines.
 fn read_block(line: &mut [u8], out: &mut [u8], s: State) -> Turn
-    requires { ⌜ (s .kept ≤ length (now line)) × (513 ≤ length (now out)) ⌝ }
+    requires { ⌜ (s .kept ≤ length (now line)) × (longestReply ≤ length (now out)) ⌝ }
     ensures { λ r. ⌜ r .state .kept ≤ length (now (line .exit)) ⌝ }
 {
     let mut block = io::large_buffer();

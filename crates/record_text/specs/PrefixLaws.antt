@@ -1,4 +1,4 @@
--- What follows a record does not change it, and what is no record within 256 bytes is none whatever follows.
+-- What follows a record does not change it, and what is no record within as many bytes as the longest has is none whatever follows.
 use Prim.Native.Nat.{ℕ, _+_, _-_, _/_, _%_, _≤_, _<_}
 use native.Mathlib.Omega.{arith}
 use mathlib.Core.Bool.{Bool, true, false, cond}
@@ -10,8 +10,8 @@ use lib.Seq.{take-append-le, take-append-seam}
 use Rattle.rows.specs.Groups.{groups, groupsIn}
 use Rattle.rows.specs.Layouts.{Layout, number, spell, Read, held, wrong, read, Row, and-then}
 use Rattle.rows.specs.LayoutLaws.{row-fits, row-back, row-only, none-right}
-use Rattle.records.specs.Records.{recordLayout, told, readingOf}
-use Rattle.records.specs.BackLaws.{at-most-256}
+use Rattle.records.specs.Records.{headed, recordLayout, longestRecord, told, readingOf}
+use Rattle.records.specs.BackLaws.{at-most-longest}
 use Rattle.records.specs.declared.Record.{Record}
 use Rattle.records.specs.declared.Verdict.the-variants as verdict
 
@@ -30,7 +30,7 @@ unfolding spell
 some-bytes (and-then {n = n} {row = row} small right later) = rw (length-append (groups n) (spell row)) (let p = some-groups n in omega arith)
 
 record-some : (l : List ℕ) (x : Record) → Row recordLayout l x → 0 < length (spell l)
-unfolding recordLayout
+unfolding recordLayout headed
 record-some l x r = some-bytes r
 
 -- ---- what a verdict tells of the bytes
@@ -89,8 +89,8 @@ module _ (s u : List ℕ) where
       count : length (s ++ u) - length (h .0 ++ u) ≡ n
       count = rw (length-append s u, length-append (h .0) u) (let c = h .1 .count in omega arith)
 
-  -- what is refused with 256 bytes at hand stays refused
-  pub refusal-stays : {n : ℕ} → 256 ≤ length s → readingOf s .verdict ≡ verdict.Refused n → readingOf (s ++ u) .verdict ≡ verdict.Refused 11
+  -- what is refused with as many bytes at hand as the longest record has stays refused
+  pub refusal-stays : {n : ℕ} → longestRecord ≤ length s → readingOf s .verdict ≡ verdict.Refused n → readingOf (s ++ u) .verdict ≡ verdict.Refused 11
   unfolding readingOf
   refusal-stays h e = go (read recordLayout (s ++ u)) refl
     where
@@ -98,7 +98,7 @@ module _ (s u : List ℕ) where
       go wrong q = refl
       go (held o t) q =
           let w = row-only recordLayout (s ++ u) o t q in
-          let m = at-most-256 (w .row) in
+          let m = at-most-longest (w .row) in
           let front : take (length (spell (w .numbers))) s ≡ spell (w .numbers) = sym (take-append-le (length (spell (w .numbers))) s u (omega arith)) ∙ ap (take (length (spell (w .numbers)))) (w .is) ∙ take-append-seam (spell (w .numbers)) t in
           let split : s ≡ spell (w .numbers) ++ drop (length (spell (w .numbers))) s = sym (take-append-drop (length (spell (w .numbers))) s) ∙ ap (λ (l : List ℕ). l ++ drop (length (spell (w .numbers))) s) front in
           absurd (none-right recordLayout s (refused-wrong s e) (w .numbers) (drop (length (spell (w .numbers))) s) (row-fits (w .row)) split)

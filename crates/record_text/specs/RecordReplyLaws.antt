@@ -15,8 +15,9 @@ use borrow.Author.Tests.{le-ltb}
 use Rattle.numerical.specs.declared.Outcome.{Outcome}
 use Rattle.roots.specs.Calls.{answer}
 use Rattle.rows.specs.LayoutLaws.{fits-row}
-use Rattle.records.specs.Records.{callRow, rowOf, recordLayout, recordable, bytesOf, writtenTo, leftBy}
-use Rattle.records.specs.BackLaws.{at-most-256}
+use Rattle.records.specs.Records.{callRow, rowOf, recordLayout, holdsBoth, recordable, longestRecord, newest, bytesOf, writtenTo, leftBy}
+use Rattle.records.specs.RoundLaws.{recordable-parts}
+use Rattle.records.specs.BackLaws.{at-most-longest}
 use Rattle.records.specs.declared.Record.{Record}
 use Rattle.records.specs.declared.Verdict.{Verdict}
 use Rattle.records.specs.declared.Verdict.the-variants as verdict
@@ -27,7 +28,7 @@ use Rattle.line_text.specs.declared.call.Call.{Call}
 use Rattle.line_text.specs.declared.call.Fault.{Fault}
 use Rattle.line_text.specs.declared.call.Reading.{Reading}
 use Rattle.line_text.specs.declared.call.Reading.the-variants as reading
-use Rattle.record_text.specs.RecordTexts.{hexBytes, refusedText, refusalOf, recordedText, recordOf, recorded, recordReply, lineRecord}
+use Rattle.record_text.specs.RecordTexts.{longestReply, hexBytes, refusedText, refusalOf, recordedText, recordOf, recorded, recordReply, lineRecord}
 
 -- ---- the copy of the coefficients
 
@@ -66,8 +67,8 @@ module _ {before a now : List Float} {i : ℕ} (g : Fronting before a now i) whe
 
 -- ---- a record written, or refused
 
-record-short : (o : Record) → recordable o ≡ true → length (bytesOf o) ≤ 256
-record-short o h = at-most-256 (fits-row recordLayout (rowOf o) h .1)
+record-short : (o : Record) → recordable o ≡ true → length (bytesOf o) ≤ longestRecord
+record-short o h = at-most-longest (fits-row recordLayout (rowOf o) (recordable-parts o h .1) .1)
 
 -- what the verdict of writing tells
 bytes-told : (b c : Bool) (k n : ℕ) → cond b (cond c (verdict.Refused 10) (verdict.Bytes k)) (verdict.Refused 11) ≡ verdict.Bytes n → (b ≡ true) × (k ≡ n)
@@ -92,7 +93,7 @@ module _ (o : Record) (before : List ℕ) {v : Verdict} (x : v ≡ writtenTo o (
     front : take n aside ≡ bytesOf o
     front = rw holds (take-at (bytesOf o) (drop n before) n (both-told .1))
 
-    short : n ≤ 256
+    short : n ≤ longestRecord
     short = let l = record-short o (both-told .0) in let m = both-told .1 in omega arith
 
     pub bytes-within : n ≤ length aside
@@ -101,21 +102,21 @@ module _ (o : Record) (before : List ℕ) {v : Verdict} (x : v ≡ writtenTo o (
     pub bytes-count : n ≡ length (take n aside)
     bytes-count = sym (ap length front ∙ both-told .1)
 
-    pub digits-room : (at len : ℕ) → at + 513 ≤ len → at + 2 * length (take n aside) ≤ len
+    pub digits-room : (at len : ℕ) → at + longestReply ≤ len → at + 2 * length (take n aside) ≤ len
     digits-room at len h = let s = short in let c = bytes-count in omega arith
 
     module _ (at : ℕ) (out out′ : List ℕ) {p : ℕ} (q : p ≡ at + 2 * length (take n aside)) where
-      pub end-room : at + 513 ≤ length out → length out′ ≡ length out → p < length out′
+      pub end-room : at + longestReply ≤ length out → length out′ ≡ length out → p < length out′
       end-room h l = let s = short in let c = bytes-count in omega arith
 
-      pub recorded-ends : {out″ : List ℕ} {r : ℕ} → Put out′ p (10 ∷ []) out″ r → r ≤ at + 513
+      pub recorded-ends : {out″ : List ℕ} {r : ℕ} → Put out′ p (10 ∷ []) out″ r → r ≤ at + longestReply
       recorded-ends f = let s = short in let c = bytes-count in let z = f .ends in omega arith
 
     pub recorded-put : (at : ℕ) (out : List ℕ) {out′ out″ : List ℕ} {p r : ℕ} → Put out at (hexBytes (take n aside)) out′ p → Put out′ p (10 ∷ []) out″ r → Put out at (recordedText o) out″ r
     unfolding recordedText
     recorded-put at out f g = rw (both-told .0, ← front) (put-both f g)
 
-  pub unrecorded-put : {n k : ℕ} (at : ℕ) (out : List ℕ) {out′ : List ℕ} {r : ℕ} → v ≡ verdict.Refused n → length before ≡ 256 → k ≡ refusalOf (o .outcome .answer) → Put out at (refusedText k) out′ r → Put out at (recordedText o) out′ r
+  pub unrecorded-put : {n k : ℕ} (at : ℕ) (out : List ℕ) {out′ : List ℕ} {r : ℕ} → v ≡ verdict.Refused n → length before ≡ longestRecord → k ≡ refusalOf (o .outcome .answer) → Put out at (refusedText k) out′ r → Put out at (recordedText o) out′ r
   unfolding recordedText writtenTo
   unrecorded-put {n} at out e l f g = rw (no-record, ← f) g
     where
@@ -127,10 +128,10 @@ module _ (o : Record) (before : List ℕ) {v : Verdict} (x : v ≡ writtenTo o (
 
 -- ---- a call searched
 
--- a record is told by its row and its answer
-same-text : (o u : Record) → rowOf o ≡ rowOf u → o .outcome ≡ u .outcome → recordedText o ≡ recordedText u
+-- a record is told by its row, its tolerances and its answer
+same-text : (o u : Record) → holdsBoth (o .kind) (o .tolerances) ≡ holdsBoth (u .kind) (u .tolerances) → rowOf o ≡ rowOf u → o .outcome ≡ u .outcome → recordedText o ≡ recordedText u
 unfolding recordedText
-same-text o u e f = rw (e, f)
+same-text o u b e f = rw (b, e, f)
 
 same-front : (n : ℕ) (a : List Float) → n ≤ length a → take n (take 16 a) ≡ take n (take 16 (take n a))
 same-front n a h = elim (eq-zero-or-pos (n - 16)) [ inl e ↦ few (omega arith) | inr g ↦ many (omega arith) ]
@@ -147,14 +148,14 @@ module _ (a : List Float) (c : Call) (h : c .count ≤ length a) where
 
   -- the record that the code makes, with the first 16 doubles of the array
   abbrev kept : List Float → Outcome → Record
-  kept front o = record { coefficients = front; count = c .count; method = c .method; eps = c .eps; limit = c .limit; outcome = o }
+  kept front o = record { kind = newest; coefficients = front; count = c .count; method = c .method; tolerances = c .tolerances; limit = c .limit; outcome = o }
 
-  same-row : (front : List Float) (o : Outcome) → front ≡ take 16 a → o ≡ answer (take (c .count) a) (c .method) (c .eps) (c .limit) → rowOf (kept front o) ≡ rowOf (recordOf (take (c .count) a) (c .method) (c .eps) (c .limit))
+  same-row : (front : List Float) (o : Outcome) → front ≡ take 16 a → o ≡ answer (take (c .count) a) (c .method) (c .tolerances) (c .limit) → rowOf (kept front o) ≡ rowOf (recordOf (take (c .count) a) (c .method) (c .tolerances) (c .limit))
   unfolding rowOf callRow
   same-row front o e f = rw (e, f, length-take-le (c .count) a h, same-front (c .count) a h)
 
-  pub searched-put : (at : ℕ) (out : List ℕ) {front : List Float} {o : Outcome} {now : List ℕ} {r : ℕ} → front ≡ take 16 a → o ≡ answer (take (c .count) a) (c .method) (c .eps) (c .limit) → Put out at (recordedText (record { coefficients = front; count = c .count; method = c .method; eps = c .eps; limit = c .limit; outcome = o })) now r → Put out at (recordedText (recordOf (take (c .count) a) (c .method) (c .eps) (c .limit))) now r
-  searched-put at out {front} {o} e f g = rw (same-text (kept front o) (recordOf (take (c .count) a) (c .method) (c .eps) (c .limit)) (same-row front o e f) f) at g
+  pub searched-put : (at : ℕ) (out : List ℕ) {front : List Float} {o : Outcome} {now : List ℕ} {r : ℕ} → front ≡ take 16 a → o ≡ answer (take (c .count) a) (c .method) (c .tolerances) (c .limit) → Put out at (recordedText (record { kind = newest; coefficients = front; count = c .count; method = c .method; tolerances = c .tolerances; limit = c .limit; outcome = o })) now r → Put out at (recordedText (recordOf (take (c .count) a) (c .method) (c .tolerances) (c .limit))) now r
+  searched-put at out {front} {o} e f g = rw (same-text (kept front o) (recordOf (take (c .count) a) (c .method) (c .tolerances) (c .limit)) refl (same-row front o e f) f) at g
 
 -- ---- what was read, and its reply
 
@@ -163,7 +164,7 @@ module _ (s t : List ℕ) {filled : List Float} (a : List Float) {r : Reading} (
   unfolding recordReply
   replies = rw (k .is, w)
 
-  pub call-record : (before : List ℕ) (at : ℕ) {now : List ℕ} {p : ℕ} {c : Call} → r ≡ reading.Call c → Put before at (recordedText (recordOf (take (c .count) a) (c .method) (c .eps) (c .limit))) now p → Put before at (recordReply s) now p
+  pub call-record : (before : List ℕ) (at : ℕ) {now : List ℕ} {p : ℕ} {c : Call} → r ≡ reading.Call c → Put before at (recordedText (recordOf (take (c .count) a) (c .method) (c .tolerances) (c .limit))) now p → Put before at (recordReply s) now p
   call-record before at e g = rw (← replies, e) g
 
   pub wrong-record : (before : List ℕ) (at : ℕ) {now : List ℕ} {p : ℕ} {why : Fault} → r ≡ reading.Wrong why → Put before at (faultText why) now p → Put before at (recordReply s) now p

@@ -9,6 +9,7 @@ use lib.Seq.{take-suc, take-length, take-all}
 use lib.Ieee.{Float, nan}
 use borrow.Author.Tests.{lt-ltb, le-ltb}
 use Rattle.io.specs.Digits.{glyph}
+use Rattle.simple_convergency.specs.declared.Tolerances.{Tolerances}
 use Rattle.roots.specs.Calls.{startsOf}
 use Rattle.roots.specs.Methods.{methodNumber}
 use Rattle.roots.specs.declared.Method.{Method}
@@ -118,17 +119,19 @@ module _ (a : List ℕ) (at : ℕ) {b : List ℕ} {p : ℕ} where
   starts-put m e x = rw e x
 
   module _ {c : List ℕ} {q : ℕ} {d : List ℕ} {r : ℕ} where
-    pub rule-put : (m : Method) (eps : Float) (limit : ℕ) → Put a at (numbersText (startsOf m)) b p → Put b p (doubleField eps) c q → Put c q (decimalField limit 32) d r → Put a at (ruleText m eps limit) d r
+    pub rule-put : (m : Method) (t : Tolerances) (limit : ℕ) → Put a at (numbersText (startsOf m)) b p → Put b p (numbersText (t .value ∷ t .point ∷ [])) c q → Put c q (decimalField limit 32) d r → Put a at (ruleText m t limit) d r
     unfolding ruleText
-    rule-put m eps limit x y z = put-both (put-both x y) z
+    rule-put m t limit x y z = put-both (put-both x y) z
 
-    pub call-put : (k : Record) {n : ℕ} {e : List ℕ} {u : ℕ} → n ≡ methodNumber (k .method) → Put a at (decimalField n 32) b p → Put b p (decimalField (k .count) 32) c q → Put c q (numbersText (take (k .count) (k .coefficients))) d r → Put d r (ruleText (k .method) (k .eps) (k .limit)) e u → Put a at (callText k) e u
+    pub call-put : (k : Record) {n : ℕ} {e : List ℕ} {u : ℕ} → n ≡ methodNumber (k .method) → Put a at (decimalField n 32) b p → Put b p (decimalField (k .count) 32) c q → Put c q (numbersText (take (k .count) (k .coefficients))) d r → Put d r (ruleText (k .method) (k .tolerances) (k .limit)) e u → Put a at (callText k) e u
     unfolding callText
     call-put k h x y z w = put-both (put-both (put-both (rw h at x) y) z) w
 
-    pub record-put : (n : ℕ) (k : Record) → Put a at (decimalField n 32) b p → Put b p (callText k) c q → Put c q (textOf (k .outcome)) d r → Put a at (recordText n k) d r
+    pub record-put :
+        (n : ℕ) (k : Record) {e : List ℕ} {u : ℕ} → Put a at (decimalField n 32) b p → Put b p (decimalField (k .kind) 32) c q → Put c q (callText k) d r → Put d r (textOf (k .outcome)) e u →
+        Put a at (recordText n k) e u
     unfolding recordText
-    record-put n k x y z = put-both (put-both x y) z
+    record-put n k x y z w = put-both (put-both (put-both x y) z) w
 
 -- what was read, as a line
 module _ (s : List ℕ) {b : Reading} (y : b ≡ readingOf s) where

@@ -1,5 +1,5 @@
 -- Records as text. Definitions only.
-use Prim.Native.Nat.{ℕ, _/_, _%_}
+use Prim.Native.Nat.{ℕ, _+_, _*_, _/_, _%_}
 use mathlib.Core.Bool.{Bool, true, false, cond}
 use mathlib.Core.List.{List, [], _∷_, _++_}
 use lib.ListN.{length, take}
@@ -8,16 +8,26 @@ use Rattle.io.specs.Digits.{glyph}
 use Rattle.numerical.specs.declared.Answer.{Answer}
 use Rattle.numerical.specs.declared.Answer.the-variants.{ByValue, ByWidth, Refused}
 use Rattle.simple_convergency.specs.Stop.{mostCoefficients}
+use Rattle.simple_convergency.specs.declared.Tolerances.{Tolerances}
 use Rattle.roots.specs.Calls.{startsOf, answer}
 use Rattle.roots.specs.Methods.{methodNumber}
 use Rattle.roots.specs.declared.Method.{Method}
-use Rattle.records.specs.Records.{recordable, bytesOf}
+use Rattle.records.specs.Records.{recordable, longestRecord, newest, bytesOf}
 use Rattle.records.specs.declared.Record.{Record}
 use Rattle.records.specs.declared.Reading.{Reading}
 use Rattle.records.specs.declared.Verdict.{Verdict}
 use Rattle.records.specs.declared.Verdict.the-variants as verdict
 use Rattle.line_text.specs.Calls.{Asked, call, no-call, askedOf}
-use Rattle.line_text.specs.Texts.{bytes, decimalField, doubleField, numbersText, textOf, faultText, trimmed}
+use Rattle.line_text.specs.Texts.{bytes, decimalField, numbersText, textOf, faultText, trimmed}
+
+-- ---- how long
+
+-- no line of a record is longer, and no reply: two digits a byte and the line's end
+abbrev pub longestLine : ℕ
+longestLine = 601
+
+abbrev pub longestReply : ℕ
+longestReply = 2 * longestRecord + 1
 
 -- ---- bytes as hexadecimal digits
 
@@ -28,11 +38,11 @@ abbrev pub hexBytes : List ℕ → List ℕ
 hexBytes [] = []
 hexBytes (b ∷ t) = pair b ++ hexBytes t
 
--- ---- LENGTH METHOD COUNT A0 .. START [START] EPS LIMIT KIND NUMBERS.. STEPS VALUES DERIVATIVES MARK
+-- ---- LENGTH RECORD_KIND METHOD COUNT A0 .. START [START] VALUE_TOLERANCE POINT_TOLERANCE LIMIT KIND NUMBERS.. STEPS VALUES DERIVATIVES MARK
 
--- START [START] EPS LIMIT
-unfoldable pub ruleText : Method → Float → ℕ → List ℕ
-ruleText method eps limit = numbersText (startsOf method) ++ doubleField eps ++ decimalField limit 32
+-- START [START] VALUE_TOLERANCE POINT_TOLERANCE LIMIT
+unfoldable pub ruleText : Method → Tolerances → ℕ → List ℕ
+ruleText method tolerances limit = numbersText (startsOf method) ++ numbersText (tolerances .value ∷ tolerances .point ∷ []) ++ decimalField limit 32
 
 -- METHOD COUNT A0 .. and then these
 unfoldable pub callText : Record → List ℕ
@@ -40,11 +50,11 @@ callText r =
     decimalField (methodNumber (r .method)) 32
     ++ decimalField (r .count) 32
     ++ numbersText (take (r .count) (r .coefficients))
-    ++ ruleText (r .method) (r .eps) (r .limit)
+    ++ ruleText (r .method) (r .tolerances) (r .limit)
 
 -- a record of n bytes
 unfoldable pub recordText : ℕ → Record → List ℕ
-recordText n r = decimalField n 32 ++ callText r ++ textOf (r .outcome)
+recordText n r = decimalField n 32 ++ decimalField (r .kind) 32 ++ callText r ++ textOf (r .outcome)
 
 unfoldable pub refusedText : ℕ → List ℕ
 refusedText n = bytes "refused " ++ decimalField n 10
@@ -76,12 +86,12 @@ refusalOf (Refused n) = n
 unfoldable pub recordedText : Record → List ℕ
 recordedText r = cond (recordable r) (hexBytes (bytesOf r) ++ (10 ∷ [])) (refusedText (refusalOf (r .outcome .answer)))
 
--- of more than 16 coefficients it keeps 16, and is no record by its count
-abbrev pub recordOf : List Float → Method → Float → ℕ → Record
-recordOf a method eps limit = record { coefficients = take mostCoefficients a; count = length a; method = method; eps = eps; limit = limit; outcome = answer a method eps limit }
+-- of the newest kind; of more than 16 coefficients it keeps 16, and is no record by its count
+abbrev pub recordOf : List Float → Method → Tolerances → ℕ → Record
+recordOf a method tolerances limit = record { kind = newest; coefficients = take mostCoefficients a; count = length a; method = method; tolerances = tolerances; limit = limit; outcome = answer a method tolerances limit }
 
 abbrev pub recorded : Asked → List ℕ
-recorded (call a method eps limit) = recordedText (recordOf a method eps limit)
+recorded (call a method tolerances limit) = recordedText (recordOf a method tolerances limit)
 recorded (no-call why) = faultText why
 
 unfoldable pub recordReply : List ℕ → List ℕ

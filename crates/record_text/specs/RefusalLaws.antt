@@ -12,12 +12,13 @@ use lib.Ieee.{Float, binary64, ofBits, toBits}
 use borrow.Author.Tests.{lt-ltb, le-ltb}
 use Rattle.numerical.specs.Answers.{refusedAtOnce}
 use Rattle.simple_convergency.specs.Stop.{mostCoefficients}
+use Rattle.simple_convergency.specs.declared.Tolerances.{Tolerances}
 use Rattle.roots.specs.Calls.{startsOf, answer}
 use Rattle.roots.specs.Methods.{methodNumber, startCount}
 use Rattle.roots.specs.declared.Method.{Method}
 use Rattle.roots.specs.declared.Method.the-variants.{Brent, RegulaFalsi, Secant, NewtonRaphson, Polynom}
 use Rattle.rows.specs.Layouts.{Layout, number, fits}
-use Rattle.records.specs.Records.{bitsOf, ruleRow, callRow, answerRow, progressRow, rowOf, between, isKind, doubles, recordLayout}
+use Rattle.records.specs.Records.{bitsOf, headRow, tolerancesRow, ruleRow, callRow, answerRow, progressRow, rowOf, between, isKind, doubles, headed, tolerancesFor, recordLayout, holdsBoth, newest}
 use Rattle.records.specs.declared.Record.{Record}
 use Rattle.record_text.specs.RecordTexts.{recordOf, recordedText, refusedText}
 
@@ -57,36 +58,45 @@ starts-count (Secant p q) = refl
 starts-count (NewtonRaphson p) = refl
 starts-count (Polynom p q) = refl
 
-module _ (r : Record) where
-  many-misfit : mostCoefficients < r .count → Misfit recordLayout (rowOf r)
-  unfolding recordLayout rowOf callRow
-  many-misfit h = later (here (no-count (r .count) h))
-
+-- of the newest kind
+module _ (r : Record) (k : r .kind ≡ newest) where
   abbrev answer-on : List ℕ
   answer-on = answerRow (r .outcome .answer) ++ progressRow (r .outcome .progress)
 
+  abbrev numbered : List ℕ
+  numbered = toBits binary64 (r .tolerances .value) ∷ toBits binary64 (r .tolerances .point) ∷ r .limit ∷ []
+
   -- number by number
-  row-is : rowOf r ≡ methodNumber (r .method) ∷ r .count ∷ (bitsOf (take (r .count) (r .coefficients)) ++ (bitsOf (startsOf (r .method)) ++ (toBits binary64 (r .eps) ∷ r .limit ∷ answer-on)))
-  unfolding rowOf callRow ruleRow
+  row-is :
+      rowOf r
+      ≡ 0 ∷ newest ∷ methodNumber (r .method) ∷ r .count
+      ∷ (bitsOf (take (r .count) (r .coefficients)) ++ (bitsOf (startsOf (r .method)) ++ (toBits binary64 (r .tolerances .value) ∷ toBits binary64 (r .tolerances .point) ∷ r .limit ∷ answer-on)))
+  unfolding rowOf callRow headRow ruleRow tolerancesRow
   row-is =
-      ap (λ (l : List ℕ). methodNumber (r .method) ∷ r .count ∷ l)
-      (append-assoc (bitsOf (take (r .count) (r .coefficients))) (bitsOf (startsOf (r .method)) ++ (toBits binary64 (r .eps) ∷ r .limit ∷ [])) answer-on
-      ∙ ap (λ (l : List ℕ). bitsOf (take (r .count) (r .coefficients)) ++ l) (append-assoc (bitsOf (startsOf (r .method))) (toBits binary64 (r .eps) ∷ r .limit ∷ []) answer-on))
+      rw k
+      (ap (λ (l : List ℕ). 0 ∷ newest ∷ methodNumber (r .method) ∷ r .count ∷ l)
+      (append-assoc (bitsOf (take (r .count) (r .coefficients))) (bitsOf (startsOf (r .method)) ++ numbered) answer-on
+      ∙ ap (λ (l : List ℕ). bitsOf (take (r .count) (r .coefficients)) ++ l) (append-assoc (bitsOf (startsOf (r .method))) numbered answer-on)))
+
+  many-misfit : mostCoefficients < r .count → Misfit recordLayout (rowOf r)
+  unfolding recordLayout headed
+  many-misfit h = rw row-is (later (later (later (here (no-count (r .count) h)))))
 
   kind-misfit : (a : List Float) (n : ℕ) → take (r .count) (r .coefficients) ≡ a → r .count ≡ length a → r .outcome ≡ refusedAtOnce n → 1 ≤ n → n ≤ 5 → Misfit recordLayout (rowOf r)
-  unfolding recordLayout answerRow
-  kind-misfit a n f c e h l = rw (row-is, f, c, e) (later (later (behind a λ coefficients. rw starts-count (behind (startsOf (r .method)) λ starts. later (later (here (no-kind n h l)))))))
+  unfolding recordLayout headed tolerancesFor answerRow
+  kind-misfit a n f c e h l =
+      rw (row-is, f, c, e) (later (later (later (later (behind a λ coefficients. rw starts-count (behind (startsOf (r .method)) λ starts. later (later (later (here (no-kind n h l))))))))))
 
 all-taken : (k : ℕ) (a : List Float) → length a ≤ k → take (length a) (take k a) ≡ a
 all-taken k a h = rw (take-all k a h, take-length a)
 
-module _ (a : List Float) (m : Method) (eps : Float) (limit n : ℕ) (e : answer a m eps limit ≡ refusedAtOnce n) (h : 1 ≤ n) (l : n ≤ 5) where
-  no-record : Misfit recordLayout (rowOf (recordOf a m eps limit))
-  no-record = elim (eq-zero-or-pos (length a - mostCoefficients)) [ inl z ↦ few (omega arith) | inr z ↦ many-misfit (recordOf a m eps limit) (omega arith) ]
+module _ (a : List Float) (m : Method) (t : Tolerances) (limit n : ℕ) (e : answer a m t limit ≡ refusedAtOnce n) (h : 1 ≤ n) (l : n ≤ 5) where
+  no-record : Misfit recordLayout (rowOf (recordOf a m t limit))
+  no-record = elim (eq-zero-or-pos (length a - mostCoefficients)) [ inl z ↦ few (omega arith) | inr z ↦ many-misfit (recordOf a m t limit) refl (omega arith) ]
     where
-      few : length a ≤ mostCoefficients → Misfit recordLayout (rowOf (recordOf a m eps limit))
-      few s = kind-misfit (recordOf a m eps limit) a n (all-taken mostCoefficients a s) refl e h l
+      few : length a ≤ mostCoefficients → Misfit recordLayout (rowOf (recordOf a m t limit))
+      few s = kind-misfit (recordOf a m t limit) refl a n (all-taken mostCoefficients a s) refl e h l
 
-  pub refusal-shown : recordedText (recordOf a m eps limit) ≡ refusedText n
-  unfolding recordedText
+  pub refusal-shown : recordedText (recordOf a m t limit) ≡ refusedText n
+  unfolding recordedText holdsBoth
   refusal-shown = rw (no-record .is, e)

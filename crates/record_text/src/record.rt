@@ -1,4 +1,5 @@
-// A record as a line: LENGTH METHOD COUNT A0 .. START [START] EPS LIMIT KIND NUMBERS.. STEPS VALUES DERIVATIVES MARK.
+// A record as a line: LENGTH RECORD_KIND METHOD COUNT A0 .. START [START] VALUE_TOLERANCE POINT_TOLERANCE LIMIT KIND
+// NUMBERS.. STEPS VALUES DERIVATIVES MARK.
 ghost use mathlib.Core.Path.{_≡_};
 ghost use mathlib.Core.List.{[], _∷_};
 ghost use Prim.Native.Nat.{_+_, _*_, _≤_};
@@ -6,18 +7,22 @@ ghost use lib.ListN.{length, take};
 ghost use Rattle.records.specs.Records.{readingOf};
 ghost use Rattle.roots.specs.Calls.{startsOf};
 ghost use Rattle.line_text.specs.Texts.{Put, numbersText};
-ghost use Rattle.record_text.specs.RecordTexts.{ruleText, callText, recordText, refusedText, readingText, takenBy};
+ghost use Rattle.record_text.specs.RecordTexts.{longestLine, ruleText, callText, recordText, refusedText, readingText, takenBy};
 use line_text::text;
 use records::Record;
 use records::Verdict;
 use roots::Method;
 use simple_convergency::StopRule;
+use simple_convergency::Tolerances;
 
 // Where a record's line ends, and how many bytes the record took: none where it was refused.
 pub struct Shown {
     pub end: usize,
     pub taken: usize,
 }
+
+// No line of a record is longer.
+pub const LONGEST_LINE: usize = 601;
 
 // The first k doubles of a.
 fn put_numbers(out: &mut [u8], at: usize, a: &[f64], k: usize) -> usize
@@ -79,42 +84,44 @@ fn put_coefficients(out: &mut [u8], at: usize, a: [f64; 16], count: usize) -> us
     put_numbers(out, at, &a, count)
 }
 
-// The starts, eps and the limit.
-fn put_rule(out: &mut [u8], at: usize, method: Method, eps: f64, limit: u64) -> usize
-    requires { ⌜ at + 72 ≤ length (now out) ⌝ }
-    ensures { λ r. ⌜ Put (now (out .entry)) at (ruleText method eps limit) (now (out .exit)) r ⌝ }
-    ensures { λ r. ⌜ r ≤ at + 72 ⌝ }
+// The starts, the tolerances and the limit.
+fn put_rule(out: &mut [u8], at: usize, method: Method, tolerances: Tolerances, limit: u64) -> usize
+    requires { ⌜ at + 89 ≤ length (now out) ⌝ }
+    ensures { λ r. ⌜ Put (now (out .entry)) at (ruleText method tolerances limit) (now (out .exit)) r ⌝ }
+    ensures { λ r. ⌜ r ≤ at + 89 ⌝ }
 {
     let p = put_starts(out, at, method);
-    let q = text::put_double(out, p, eps);
+    let q = put_two(out, p, tolerances.value, tolerances.point);
     text::put_decimal(out, q, limit, b' ')
 }
 
 // The call: its method's number, its coefficients with their count, and the rest of it.
 fn put_call(out: &mut [u8], at: usize, content: Record) -> usize
-    requires { ⌜ at + 386 ≤ length (now out) ⌝ }
+    requires { ⌜ at + 403 ≤ length (now out) ⌝ }
     ensures { λ r. ⌜ Put (now (out .entry)) at (callText content) (now (out .exit)) r ⌝ }
-    ensures { λ r. ⌜ r ≤ at + 386 ⌝ }
+    ensures { λ r. ⌜ r ≤ at + 403 ⌝ }
 {
     let method = content.method;
     let coefficients = content.coefficients;
     let count = content.count;
+    let tolerances = content.tolerances;
     let p = text::put_decimal(out, at, method.number() as u64, b' ');
     let q = text::put_decimal(out, p, count as u64, b' ');
     let t = put_coefficients(out, q, coefficients, count);
-    put_rule(out, t, method, content.eps, content.limit)
+    put_rule(out, t, method, tolerances, content.limit)
 }
 
-// A record of so many bytes: the length, the call and the answer.
+// A record of so many bytes: the length, the kind, the call and the answer.
 fn put_record(out: &mut [u8], at: usize, count: usize, content: Record) -> usize
-    requires { ⌜ at + 563 ≤ length (now out) ⌝ }
+    requires { ⌜ at + longestLine ≤ length (now out) ⌝ }
     ensures { λ r. ⌜ Put (now (out .entry)) at (recordText count content) (now (out .exit)) r ⌝ }
-    ensures { λ r. ⌜ r ≤ at + 563 ⌝ }
+    ensures { λ r. ⌜ r ≤ at + longestLine ⌝ }
 {
     let outcome = content.outcome;
     let p = text::put_decimal(out, at, count as u64, b' ');
-    let q = put_call(out, p, content);
-    text::put_outcome(out, q, outcome)
+    let q = text::put_decimal(out, p, content.kind, b' ');
+    let t = put_call(out, q, content);
+    text::put_outcome(out, t, outcome)
 }
 
 // The line of a refusal.
@@ -129,10 +136,10 @@ pub fn put_refused(out: &mut [u8], at: usize, number: u8) -> usize
 
 // The line of the record at the start of the bytes, or of its refusal.
 pub fn put_first(out: &mut [u8], at: usize, s: &[u8]) -> Shown
-    requires { ⌜ at + 563 ≤ length (now out) ⌝ }
+    requires { ⌜ at + longestLine ≤ length (now out) ⌝ }
     ensures { λ r. ⌜ Put (now (out .entry)) at (readingText (readingOf (now (s .entry)))) (now (out .exit)) (r .end) ⌝ }
     ensures { λ r. ⌜ r .taken ≡ takenBy (readingOf (now (s .entry))) ⌝ }
-    ensures { λ r. ⌜ (r .end ≤ at + 563) × (r .taken ≤ length (now (s .entry))) ⌝ }
+    ensures { λ r. ⌜ (r .end ≤ at + longestLine) × (r .taken ≤ length (now (s .entry))) ⌝ }
 {
     let reading = records::read(s);
     let verdict = reading.verdict;

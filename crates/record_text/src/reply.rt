@@ -3,7 +3,7 @@ ghost use mathlib.Core.Path.{_≡_};
 ghost use Prim.Native.Nat.{_+_, _≤_};
 ghost use lib.ListN.{length, take};
 ghost use Rattle.line_text.specs.Texts.{Put, trimmed};
-ghost use Rattle.record_text.specs.RecordTexts.{refusalOf, recordOf, recordedText, recordReply, lineRecord};
+ghost use Rattle.record_text.specs.RecordTexts.{longestReply, refusalOf, recordOf, recordedText, recordReply, lineRecord};
 use crate::hex;
 use crate::record;
 use call::Reading;
@@ -56,13 +56,13 @@ fn refusal(answer: Answer) -> u8
 
 // The bytes of a record as digits, or the refusal of a call that has no record.
 fn put_content(out: &mut [u8], at: usize, content: Record) -> usize
-    requires { ⌜ at + 513 ≤ length (now out) ⌝ }
+    requires { ⌜ at + longestReply ≤ length (now out) ⌝ }
     ensures { λ r. ⌜ Put (now (out .entry)) at (recordedText content) (now (out .exit)) r ⌝ }
-    ensures { λ r. ⌜ r ≤ at + 513 ⌝ }
+    ensures { λ r. ⌜ r ≤ at + longestReply ⌝ }
 {
     let outcome = content.outcome;
     let answer = outcome.answer;
-    let mut aside = [0u8; 256];
+    let mut aside = [0u8; Record::LONGEST];
     match records::write(content, &mut aside) {
         Verdict::Bytes(n) => {
             let p = hex::put_bytes(out, at, &aside[..n]);
@@ -74,20 +74,22 @@ fn put_content(out: &mut [u8], at: usize, content: Record) -> usize
 
 // A call is searched, and put down with its answer.
 fn put_searched(out: &mut [u8], at: usize, a: &[f64], c: Call) -> usize
-    requires { ⌜ at + 513 ≤ length (now out) ⌝ }
+    requires { ⌜ at + longestReply ≤ length (now out) ⌝ }
     requires { ⌜ (16 ≤ length (now a)) × (c .count ≤ length (now a)) ⌝ }
-    ensures { λ r. ⌜ Put (now (out .entry)) at (recordedText (recordOf (take (c .count) (now (a .entry))) (c .method) (c .eps) (c .limit))) (now (out .exit)) r ⌝ }
-    ensures { λ r. ⌜ r ≤ at + 513 ⌝ }
+    ensures { λ r. ⌜ Put (now (out .entry)) at (recordedText (recordOf (take (c .count) (now (a .entry))) (c .method) (c .tolerances) (c .limit))) (now (out .exit)) r ⌝ }
+    ensures { λ r. ⌜ r ≤ at + longestReply ⌝ }
 {
     let count = c.count;
     let method = c.method;
-    let outcome = roots::search(&a[..count], method, c.eps, c.limit);
+    let tolerances = c.tolerances;
+    let outcome = roots::search(&a[..count], method, tolerances, c.limit);
     let coefficients = first_sixteen(a);
     let content = Record {
+        kind: Record::NEWEST,
         coefficients,
         count,
         method,
-        eps: c.eps,
+        tolerances,
         limit: c.limit,
         outcome,
     };
@@ -96,12 +98,12 @@ fn put_searched(out: &mut [u8], at: usize, a: &[f64], c: Call) -> usize
 
 // The reply to a whole line.
 fn put_reply(s: &[u8], out: &mut [u8], at: usize) -> usize
-    requires { ⌜ at + 513 ≤ length (now out) ⌝ }
+    requires { ⌜ at + longestReply ≤ length (now out) ⌝ }
     ensures { λ r. ⌜ Put (now (out .entry)) at (recordReply (now (s .entry))) (now (out .exit)) r ⌝ }
-    ensures { λ r. ⌜ r ≤ at + 513 ⌝ }
+    ensures { λ r. ⌜ r ≤ at + longestReply ⌝ }
 {
     let n = trimmed_length(s);
-    let mut a = [0.0f64; 43];
+    let mut a = [0.0f64; 44];
     match call::read(&s[..n], &mut a) {
         Reading::Call(c) => put_searched(out, at, &a, c),
         Reading::Wrong(why) => text::put_fault(out, at, why),
@@ -110,9 +112,9 @@ fn put_reply(s: &[u8], out: &mut [u8], at: usize) -> usize
 
 // The reply to a line, or to one that was too long to be kept.
 pub fn put_line(s: &[u8], is_long: bool, out: &mut [u8], at: usize) -> usize
-    requires { ⌜ at + 513 ≤ length (now out) ⌝ }
+    requires { ⌜ at + longestReply ≤ length (now out) ⌝ }
     ensures { λ r. ⌜ Put (now (out .entry)) at (lineRecord «is_long» (now (s .entry))) (now (out .exit)) r ⌝ }
-    ensures { λ r. ⌜ r ≤ at + 513 ⌝ }
+    ensures { λ r. ⌜ r ≤ at + longestReply ⌝ }
 {
     if is_long {
         text::put(out, at, b"error too long\n")

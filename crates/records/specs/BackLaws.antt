@@ -1,4 +1,4 @@
--- Whatever reads is a record's own row, and no such row is longer than 256 bytes.
+-- Whatever reads is a record's own row, and no such row is longer than the longest record.
 use Prim.Native.Nat.{ℕ, zero, suc, _+_, _-_, _*_, _/_, _^_, _≤_, _<_}
 use native.Mathlib.Omega.{arith}
 use mathlib.Core.Bool.{Bool, true, false, cond, not, true≢false}
@@ -15,7 +15,8 @@ use Rattle.numerical.specs.Answers.{kindOf, numbersOf}
 use Rattle.numerical.specs.declared.Answer.{Answer}
 use Rattle.numerical.specs.declared.Answer.the-variants.{ByValue, ByWidth, Refused}
 use Rattle.numerical.specs.declared.Progress.{Progress}
-use Rattle.simple_convergency.specs.Stop.{leastEps, badEps, greatestLimit, mostCoefficients}
+use Rattle.simple_convergency.specs.Stop.{leastTolerance, badTolerance, oneEps, greatestLimit, mostCoefficients}
+use Rattle.simple_convergency.specs.declared.Tolerances.{Tolerances}
 use Rattle.roots.specs.Calls.{startsOf}
 use Rattle.roots.specs.Methods.{methodNumber, startCount, methodOf}
 use Rattle.roots.specs.declared.Method.{Method}
@@ -23,10 +24,10 @@ use Rattle.rows.specs.Groups.{groups, groupsIn}
 use Rattle.rows.specs.GroupLaws.{groups-last, groups-on, ten-at-most}
 use Rattle.rows.specs.Layouts.{Layout, end, number, spell, Row, at-end, and-then}
 use Rattle.rows.specs.LayoutLaws.{spell-append}
-use Rattle.records.specs.Records.{bitsOf, ruleRow, callRow, answerRow, progressRow, rowOf, between, isDouble, isEps, isKind, isTally, numbersFor, answerOf, startedAt, noughts, padded, progressOf, doubles, recordLayout}
+use Rattle.records.specs.Records.{bitsOf, headRow, tolerancesRow, ruleRow, callRow, answerRow, progressRow, rowOf, between, isDouble, isTolerance, isKind, isTally, numbersFor, answerOf, startedAt, noughts, padded, progressOf, doubles, behindZero, headed, withPoint, tolerancesFor, recordLayout, holdsBoth, longestRecord}
 use Rattle.records.specs.Parts.{ruleLayout, callLayout, answerLayout, progressLayout}
-use Rattle.records.specs.PartLaws.{recordHeld, afterCall, by-parts}
-use Rattle.records.specs.RoundLaws.{Held, Sound, at-the-end, most}
+use Rattle.records.specs.PartLaws.{CallNext, recordHeld, afterCall, by-parts}
+use Rattle.records.specs.RoundLaws.{Held, Sound, at-the-end, most, least}
 use Rattle.records.specs.declared.Record.{Record}
 
 -- ---- how many groups
@@ -237,7 +238,154 @@ answer-part next {l} {x} r =
       later = b .later;
     }
 
--- ---- the starts, eps and the limit
+-- ---- the kind and the method
+
+record HeadPart (next : ℕ → ℕ → Layout Record) (l : List ℕ) (x : Record) : Type 0 where
+  kind : ℕ
+  method : ℕ
+  rest : List ℕ
+  known : between 1 5 method ≡ true
+  small : kind < 2 ^ 64
+  is : l ≡ headRow kind ++ (method ∷ rest)
+  short : length (spell (headRow kind)) ≤ 2
+  later : Row (next kind method) rest x
+
+not-none : (n : ℕ) → between 0 5 n ≡ true → (n ≡ 0 → ⊥) → between 1 5 n ≡ true
+unfolding between
+not-none n h z = go (ltb 5 n) h
+  where
+    above : (n : ℕ) → (n ≡ 0 → ⊥) → 1 ≤ n
+    above zero z = absurd (z refl)
+    above (suc n) z = omega arith
+
+    go : (c : Bool) → cond (ltb n 0) false (cond c false true) ≡ true → cond (ltb n 1) false (cond c false true) ≡ true
+    go true q = absurd (never (ltb n 0) q)
+      where
+        never : (b : Bool) → cond b false false ≡ true → ⊥
+        never true e = true≢false (sym e)
+        never false e = true≢false (sym e)
+    go false q = rw (le-ltb n 1 (above n z))
+
+not-first : (kind : ℕ) → between 2 2 kind ≡ true → eqb kind 1 ≡ false
+not-first kind h = ne-eqb kind 1 (λ e. let z = least-two kind h in omega (arith, e, z))
+  where
+    least-two : (kind : ℕ) → between 2 2 kind ≡ true → 2 ≤ kind
+    least-two kind h = least 2 2 kind h
+
+head-part : (next : ℕ → ℕ → Layout Record) {l : List ℕ} {x : Record} → Row (headed next) l x → HeadPart next l x
+unfolding headed headRow
+head-part next {l} {x} r = go (split r)
+  where
+    go : Split (between 0 5) (λ first. cond (eqb first 0) (behindZero next) (next 1 first)) l x → HeadPart next l x
+    go a = by (eqb (a .n) 0) refl (a .later)
+      where
+        by : (b : Bool) → eqb (a .n) 0 ≡ b → Row (cond b (behindZero next) (next 1 (a .n))) (a .rest) x → HeadPart next l x
+        by false e later = record { kind = 1; method = a .n; rest = a .rest; known = not-none (a .n) (a .right) (eqb-false (a .n) 0 e); small = omega arith; is = a .is; short = let k = nothing in omega arith; later = later }
+        by true e later =
+            let b = split later in
+            let c = split (b .later) in
+            let other = not-first (b .n) (b .right) in
+            let row : 0 ∷ b .n ∷ [] ≡ cond (eqb (b .n) 1) [] (0 ∷ b .n ∷ []) = rw other in
+            let f = spelled-first 0 (b .n ∷ []) in
+            let g = spelled-first (b .n) [] in
+            let z = most 2 2 (b .n) (b .right) in
+            let i = one-group 0 (omega arith) in
+            let j = one-group (b .n) (omega arith) in
+            let k = nothing in
+            let long : length (spell (0 ∷ b .n ∷ [])) ≤ 2 = omega arith in
+            record {
+              kind = b .n;
+              method = c .n;
+              rest = c .rest;
+              known = c .right;
+              small = b .small;
+              is = a .is ∙ ap (λ (n : ℕ). n ∷ a .rest) (eqb-true (a .n) 0 e) ∙ ap (λ (m : List ℕ). 0 ∷ m) (b .is ∙ ap (λ (m : List ℕ). b .n ∷ m) (c .is)) ∙ ap (λ (m : List ℕ). m ++ (c .n ∷ c .rest)) row;
+              short = subst (λ (m : List ℕ). length (spell m) ≤ 2) row long;
+              later = c .later;
+            }
+
+-- ---- the tolerances
+
+record TolerancesPart (kind : ℕ) (next : Tolerances → Layout Record) (l : List ℕ) (x : Record) : Type 0 where
+  part : Tolerances
+  rest : List ℕ
+  is : l ≡ tolerancesRow kind part ++ rest
+  short : length (spell (tolerancesRow kind part)) ≤ 20
+  value-held : T (fits binary64 (part .value))
+  point-held : T (fits binary64 (part .point))
+  both : holdsBoth kind part ≡ true
+  later : Row (next part) rest x
+
+tolerance-double : (n : ℕ) → isTolerance n ≡ true → isDouble n ≡ true
+unfolding isTolerance isDouble badTolerance
+tolerance-double n h = go (finite (ofBits binary64 n)) (lt (ofBits binary64 n) leastTolerance) h
+  where
+    go : (b c : Bool) → not (cond b c true) ≡ true → b ≡ true
+    go true c e = refl
+    go false c e = absurd (true≢false (sym e))
+
+-- one tolerance, and two
+one-part :
+    (kind : ℕ) (next : Tolerances → Layout Record) → eqb kind 1 ≡ true → (n : ℕ) → toBits binary64 (ofBits binary64 n) ≡ n → (l rest : List ℕ) → l ≡ n ∷ rest → (x : Record) → Row (next (oneEps (ofBits binary64 n))) rest x →
+    TolerancesPart kind next l x
+unfolding tolerancesRow holdsBoth
+one-part kind next e n back l rest is x later =
+    let row : cond (eqb kind 1) (toBits binary64 (ofBits binary64 n) ∷ []) (toBits binary64 (ofBits binary64 n) ∷ toBits binary64 (ofBits binary64 n) ∷ []) ≡ n ∷ [] = rw (e, back) in
+    let a = spelled-first n [] in
+    let b = ten-at-most n in
+    let c = nothing in
+    let long : length (spell (n ∷ [])) ≤ 20 = omega arith in
+    record {
+      part = oneEps (ofBits binary64 n);
+      rest = rest;
+      is = is ∙ ap (λ (m : List ℕ). m ++ rest) (sym row);
+      short = subst (λ (m : List ℕ). length (spell m) ≤ 20) (sym row) long;
+      value-held = ofBits-fits binary64 n;
+      point-held = ofBits-fits binary64 n;
+      both = rw (e, eq-eqb (toBits binary64 (ofBits binary64 n)) (toBits binary64 (ofBits binary64 n)) refl);
+      later = later;
+    }
+
+two-part :
+    (kind : ℕ) (next : Tolerances → Layout Record) → eqb kind 1 ≡ false → (n m : ℕ) → toBits binary64 (ofBits binary64 n) ≡ n → toBits binary64 (ofBits binary64 m) ≡ m → (l rest : List ℕ) → l ≡ n ∷ m ∷ rest →
+    (x : Record) → Row (next (record { value = ofBits binary64 n; point = ofBits binary64 m })) rest x → TolerancesPart kind next l x
+unfolding tolerancesRow holdsBoth
+two-part kind next e n m back again l rest is x later =
+    let row : cond (eqb kind 1) (toBits binary64 (ofBits binary64 n) ∷ []) (toBits binary64 (ofBits binary64 n) ∷ toBits binary64 (ofBits binary64 m) ∷ []) ≡ n ∷ m ∷ [] = rw (e, back, again) in
+    let a = spelled-first n (m ∷ []) in
+    let b = spelled-first m [] in
+    let c = ten-at-most n in
+    let d = ten-at-most m in
+    let f = nothing in
+    let long : length (spell (n ∷ m ∷ [])) ≤ 20 = omega arith in
+    record {
+      part = record { value = ofBits binary64 n; point = ofBits binary64 m };
+      rest = rest;
+      is = is ∙ ap (λ (k : List ℕ). k ++ rest) (sym row);
+      short = subst (λ (k : List ℕ). length (spell k) ≤ 20) (sym row) long;
+      value-held = ofBits-fits binary64 n;
+      point-held = ofBits-fits binary64 m;
+      both = rw e;
+      later = later;
+    }
+
+tolerances-part : (kind : ℕ) (next : Tolerances → Layout Record) {l : List ℕ} {x : Record} → Row (tolerancesFor kind next) l x → TolerancesPart kind next l x
+unfolding tolerancesFor
+tolerances-part kind next {l} {x} r = go (split r)
+  where
+    go : Split isTolerance (λ n. cond (eqb kind 1) (next (oneEps (ofBits binary64 n))) (withPoint next n)) l x → TolerancesPart kind next l x
+    go a = by-kind (eqb kind 1) refl (a .later)
+      where
+        value-back : toBits binary64 (ofBits binary64 (a .n)) ≡ a .n
+        value-back = double-back (a .n) (a .small) (tolerance-double (a .n) (a .right))
+
+        by-kind : (b : Bool) → eqb kind 1 ≡ b → Row (cond b (next (oneEps (ofBits binary64 (a .n)))) (withPoint next (a .n))) (a .rest) x → TolerancesPart kind next l x
+        by-kind true e later = one-part kind next e (a .n) value-back l (a .rest) (a .is) x later
+        by-kind false e later =
+            let b = split later in
+            two-part kind next e (a .n) (b .n) value-back (double-back (b .n) (b .small) (tolerance-double (b .n) (b .right))) l (b .rest) (a .is ∙ ap (λ (m : List ℕ). a .n ∷ m) (b .is)) x (b .later)
+
+-- ---- the starts, the tolerances and the limit
 
 two-starts : (l : List Float) → length l ≡ 2 → l ≡ getD l 0 nan ∷ getD l 1 nan ∷ []
 two-starts [] n = absurd (omega arith)
@@ -268,46 +416,37 @@ few-starts m = go (eqb m 4)
     go true = omega arith
     go false = omega arith
 
-record RulePart (m : ℕ) (next : Method → Float → ℕ → Layout Record) (l : List ℕ) (x : Record) : Type 0 where
+record RulePart (kind m : ℕ) (next : Method → Tolerances → ℕ → Layout Record) (l : List ℕ) (x : Record) : Type 0 where
   method : Method
-  eps : Float
+  tolerances : Tolerances
   limit : ℕ
   rest : List ℕ
   number : methodNumber method ≡ m
-  is : l ≡ ruleRow method eps limit ++ rest
-  short : length (spell (ruleRow method eps limit)) ≤ 32
+  is : l ≡ ruleRow kind method tolerances limit ++ rest
+  short : length (spell (ruleRow kind method tolerances limit)) ≤ 42
   starts-held : Held (startsOf method)
-  eps-held : T (fits binary64 eps)
+  value-held : T (fits binary64 (tolerances .value))
+  point-held : T (fits binary64 (tolerances .point))
+  both : holdsBoth kind tolerances ≡ true
   limit-small : limit < 2 ^ 64
-  later : Row (next method eps limit) rest x
+  later : Row (next method tolerances limit) rest x
 
-eps-double : (n : ℕ) → isEps n ≡ true → isDouble n ≡ true
-unfolding isEps isDouble badEps
-eps-double n h = go (finite (ofBits binary64 n)) (lt (ofBits binary64 n) leastEps) h
-  where
-    go : (b c : Bool) → not (cond b c true) ≡ true → b ≡ true
-    go true c e = refl
-    go false c e = absurd (true≢false (sym e))
-
-rule-part : (m : ℕ) → between 1 5 m ≡ true → (next : Method → Float → ℕ → Layout Record) {l : List ℕ} {x : Record} → Row (ruleLayout m next) l x → RulePart m next l x
+rule-part : (kind m : ℕ) → between 1 5 m ≡ true → (next : Method → Tolerances → ℕ → Layout Record) {l : List ℕ} {x : Record} → Row (ruleLayout kind m next) l x → RulePart kind m next l x
 unfolding ruleLayout ruleRow
-rule-part m h next {l} {x} r =
-    let b = bits-off (startCount m) (λ starts. number isEps (λ eps. number (between 0 greatestLimit) (λ limit. next (startedAt m starts) (ofBits binary64 eps) limit))) r in
-    let e = split (b .later) in
+rule-part kind m h next {l} {x} r =
+    let b = bits-off (startCount m) (λ starts. tolerancesFor kind (λ tolerances. number (between 0 greatestLimit) (λ limit. next (startedAt m starts) tolerances limit))) r in
+    let e = tolerances-part kind (λ tolerances. number (between 0 greatestLimit) (λ limit. next (startedAt m (doublesOf (b .bits))) tolerances limit)) (b .later) in
     let n = split (e .later) in
     let c = method-back m (doublesOf (b .bits)) h (b .count) in
-    let row : bitsOf (startsOf (startedAt m (doublesOf (b .bits)))) ++ (toBits binary64 (ofBits binary64 (e .n)) ∷ n .n ∷ []) ≡ b .bits ++ (e .n ∷ n .n ∷ []) =
-    ap (λ (s : List Float). bitsOf s ++ (toBits binary64 (ofBits binary64 (e .n)) ∷ n .n ∷ [])) (c .1)
-    ∙ ap (λ (s : List ℕ). s ++ (toBits binary64 (ofBits binary64 (e .n)) ∷ n .n ∷ [])) (b .back)
-    ∙ ap (λ (k : ℕ). b .bits ++ (k ∷ n .n ∷ [])) (double-back (e .n) (e .small) (eps-double (e .n) (e .right)))
-    in
-    let long : length (spell (b .bits ++ (e .n ∷ n .n ∷ []))) ≤ 32 =
-    let f = spelled-both (b .bits) (e .n ∷ n .n ∷ []) in
-    let g = spelled-first (e .n) (n .n ∷ []) in
+    let last = tolerancesRow kind (e .part) ++ (n .n ∷ []) in
+    let row : bitsOf (startsOf (startedAt m (doublesOf (b .bits)))) ++ last ≡ b .bits ++ last = ap (λ (s : List Float). bitsOf s ++ last) (c .1) ∙ ap (λ (s : List ℕ). s ++ last) (b .back) in
+    let long : length (spell (b .bits ++ last)) ≤ 42 =
+    let f = spelled-both (b .bits) last in
+    let g = spelled-both (tolerancesRow kind (e .part)) (n .n ∷ []) in
     let i = spelled-first (n .n) [] in
     let j = nothing in
     let k = two-groups (n .n) (most 0 greatestLimit (n .n) (n .right)) in
-    let o = ten-at-most (e .n) in
+    let o = e .short in
     let p = ten-each (b .bits) in
     let q = bits-length (b .bits) in
     let s = b .count in
@@ -316,52 +455,68 @@ rule-part m h next {l} {x} r =
     in
     record {
       method = startedAt m (doublesOf (b .bits));
-      eps = ofBits binary64 (e .n);
+      tolerances = e .part;
       limit = n .n;
       rest = n .rest;
       number = c .0;
-      is = b .is ∙ ap (λ (s : List ℕ). b .bits ++ s) (e .is ∙ ap (λ (s : List ℕ). e .n ∷ s) (n .is)) ∙ sym (append-assoc (b .bits) (e .n ∷ n .n ∷ []) (n .rest)) ∙ ap (λ (s : List ℕ). s ++ n .rest) (sym row);
+      is =
+          b .is
+          ∙ ap (λ (s : List ℕ). b .bits ++ s) (e .is ∙ ap (λ (s : List ℕ). tolerancesRow kind (e .part) ++ s) (n .is) ∙ sym (append-assoc (tolerancesRow kind (e .part)) (n .n ∷ []) (n .rest)))
+          ∙ sym (append-assoc (b .bits) last (n .rest))
+          ∙ ap (λ (s : List ℕ). s ++ n .rest) (sym row);
       short = rw row long;
       starts-held = subst Held (sym (c .1)) (held-doubles (b .bits));
-      eps-held = ofBits-fits binary64 (e .n);
+      value-held = e .value-held;
+      point-held = e .point-held;
+      both = e .both;
       limit-small = n .small;
       later = n .later;
     }
 
 -- ---- the call
 
-record CallPart (next : List Float → ℕ → Method → Float → ℕ → Layout Record) (l : List ℕ) (x : Record) : Type 0 where
+-- the row of a call, by its parts
+abbrev called : ℕ → List Float → ℕ → Method → Tolerances → ℕ → List ℕ
+called kind coefficients count method tolerances limit = headRow kind ++ (methodNumber method ∷ count ∷ (bitsOf coefficients ++ ruleRow kind method tolerances limit))
+
+record CallPart (next : CallNext) (l : List ℕ) (x : Record) : Type 0 where
+  kind : ℕ
   coefficients : List Float
   count : ℕ
   method : Method
-  eps : Float
+  tolerances : Tolerances
   limit : ℕ
   rest : List ℕ
+  kind-small : kind < 2 ^ 64
   counted : length coefficients ≡ count
   few : count ≤ mostCoefficients
   held : Held coefficients
   starts-held : Held (startsOf method)
-  eps-held : T (fits binary64 eps)
+  value-held : T (fits binary64 (tolerances .value))
+  point-held : T (fits binary64 (tolerances .point))
+  both : holdsBoth kind tolerances ≡ true
   limit-small : limit < 2 ^ 64
-  is : l ≡ (methodNumber method ∷ count ∷ (bitsOf coefficients ++ ruleRow method eps limit)) ++ rest
-  short : length (spell (methodNumber method ∷ count ∷ (bitsOf coefficients ++ ruleRow method eps limit))) ≤ 194
-  later : Row (next coefficients count method eps limit) rest x
+  is : l ≡ called kind coefficients count method tolerances limit ++ rest
+  short : length (spell (called kind coefficients count method tolerances limit)) ≤ 206
+  later : Row (next kind coefficients count method tolerances limit) rest x
 
-call-part : (next : List Float → ℕ → Method → Float → ℕ → Layout Record) {l : List ℕ} {x : Record} → Row (callLayout next) l x → CallPart next l x
+call-part : (next : CallNext) {l : List ℕ} {x : Record} → Row (callLayout next) l x → CallPart next l x
 unfolding callLayout
 call-part next {l} {x} r =
-    let m = split r in
+    let m = head-part (λ kind m. number (between 1 mostCoefficients) (λ count. doubles count (λ coefficients. ruleLayout kind m (next kind coefficients count)))) r in
     let n = split (m .later) in
-    let b = bits-off (n .n) (λ coefficients. ruleLayout (m .n) (next coefficients (n .n))) (n .later) in
-    let c = rule-part (m .n) (m .right) (next (doublesOf (b .bits)) (n .n)) (b .later) in
-    let rule = ruleRow (c .method) (c .eps) (c .limit) in
-    let long : length (spell (m .n ∷ n .n ∷ (b .bits ++ rule))) ≤ 194 =
-    let f = spelled-first (m .n) (n .n ∷ (b .bits ++ rule)) in
+    let b = bits-off (n .n) (λ coefficients. ruleLayout (m .kind) (m .method) (next (m .kind) coefficients (n .n))) (n .later) in
+    let c = rule-part (m .kind) (m .method) (m .known) (next (m .kind) (doublesOf (b .bits)) (n .n)) (b .later) in
+    let rule = ruleRow (m .kind) (c .method) (c .tolerances) (c .limit) in
+    let long : length (spell (headRow (m .kind) ++ (m .method ∷ n .n ∷ (b .bits ++ rule)))) ≤ 206 =
+    let d = spelled-both (headRow (m .kind)) (m .method ∷ n .n ∷ (b .bits ++ rule)) in
+    let e = m .short in
+    let f = spelled-first (m .method) (n .n ∷ (b .bits ++ rule)) in
     let g = spelled-first (n .n) (b .bits ++ rule) in
     let h = spelled-both (b .bits) rule in
-    let y = most 1 5 (m .n) (m .right) in
+    let y = most 1 5 (m .method) (m .known) in
     let z = most 1 mostCoefficients (n .n) (n .right) in
-    let i = one-group (m .n) (omega arith) in
+    let i = one-group (m .method) (omega arith) in
     let j = one-group (n .n) (omega arith) in
     let k = ten-each (b .bits) in
     let o = bits-length (b .bits) in
@@ -369,24 +524,32 @@ call-part next {l} {x} r =
     let q = c .short in
     omega arith
     in
-    let row : m .n ∷ n .n ∷ (b .bits ++ rule) ≡ methodNumber (c .method) ∷ n .n ∷ (bitsOf (doublesOf (b .bits)) ++ rule) =
-    ap (λ (k : ℕ). k ∷ n .n ∷ (b .bits ++ rule)) (sym (c .number)) ∙ ap (λ (s : List ℕ). methodNumber (c .method) ∷ n .n ∷ (s ++ rule)) (sym (b .back))
+    let row : headRow (m .kind) ++ (m .method ∷ n .n ∷ (b .bits ++ rule)) ≡ called (m .kind) (doublesOf (b .bits)) (n .n) (c .method) (c .tolerances) (c .limit) =
+    ap (λ (k : ℕ). headRow (m .kind) ++ (k ∷ n .n ∷ (b .bits ++ rule))) (sym (c .number)) ∙ ap (λ (s : List ℕ). headRow (m .kind) ++ (methodNumber (c .method) ∷ n .n ∷ (s ++ rule))) (sym (b .back))
     in
     record {
+      kind = m .kind;
       coefficients = doublesOf (b .bits);
       count = n .n;
       method = c .method;
-      eps = c .eps;
+      tolerances = c .tolerances;
       limit = c .limit;
       rest = c .rest;
+      kind-small = m .small;
       counted = b .count;
       few = most 1 mostCoefficients (n .n) (n .right);
       held = held-doubles (b .bits);
       starts-held = c .starts-held;
-      eps-held = c .eps-held;
+      value-held = c .value-held;
+      point-held = c .point-held;
+      both = c .both;
       limit-small = c .limit-small;
-      is = m .is ∙ ap (λ (s : List ℕ). m .n ∷ s) (n .is ∙ ap (λ (s : List ℕ). n .n ∷ s) (b .is ∙ ap (λ (s : List ℕ). b .bits ++ s) (c .is) ∙ sym (append-assoc (b .bits) rule (c .rest)))) ∙ ap (λ (s : List ℕ). s ++ c .rest) row;
-      short = subst (λ (s : List ℕ). length (spell s) ≤ 194) row long;
+      is =
+          m .is
+          ∙ ap (λ (s : List ℕ). headRow (m .kind) ++ (m .method ∷ s)) (n .is ∙ ap (λ (s : List ℕ). n .n ∷ s) (b .is ∙ ap (λ (s : List ℕ). b .bits ++ s) (c .is) ∙ sym (append-assoc (b .bits) rule (c .rest))))
+          ∙ sym (append-assoc (headRow (m .kind)) (m .method ∷ n .n ∷ (b .bits ++ rule)) (c .rest))
+          ∙ ap (λ (s : List ℕ). s ++ c .rest) row;
+      short = subst (λ (s : List ℕ). length (spell s) ≤ 206) row long;
       later = c .later;
     }
 
@@ -396,19 +559,25 @@ module _ {l : List ℕ} {x : Record} (r : Row recordLayout l x) where
   call : CallPart afterCall l x
   call = call-part afterCall (subst (λ (t : Layout Record). Row t l x) by-parts r)
 
-  answer : AnswerPart (λ answer. progressLayout (λ progress. end (recordHeld (call .coefficients) (call .count) (call .method) (call .eps) (call .limit) answer progress))) (call .rest) x
-  answer = answer-part (λ answer. progressLayout (λ progress. end (recordHeld (call .coefficients) (call .count) (call .method) (call .eps) (call .limit) answer progress))) (call .later)
+  abbrev holds : Answer → Progress → Record
+  holds answer progress = recordHeld (call .kind) (call .coefficients) (call .count) (call .method) (call .tolerances) (call .limit) answer progress
 
-  progress : ProgressPart (λ progress. end (recordHeld (call .coefficients) (call .count) (call .method) (call .eps) (call .limit) (answer .part) progress)) (answer .rest) x
-  progress = progress-part (λ progress. end (recordHeld (call .coefficients) (call .count) (call .method) (call .eps) (call .limit) (answer .part) progress)) (answer .later)
+  abbrev itsCall : List Float → List ℕ
+  itsCall coefficients = called (call .kind) coefficients (call .count) (call .method) (call .tolerances) (call .limit)
 
-  ended : (progress .rest ≡ []) × (recordHeld (call .coefficients) (call .count) (call .method) (call .eps) (call .limit) (answer .part) (progress .part) ≡ x)
+  answer : AnswerPart (λ answer. progressLayout (λ progress. end (holds answer progress))) (call .rest) x
+  answer = answer-part (λ answer. progressLayout (λ progress. end (holds answer progress))) (call .later)
+
+  progress : ProgressPart (λ progress. end (holds (answer .part) progress)) (answer .rest) x
+  progress = progress-part (λ progress. end (holds (answer .part) progress)) (answer .later)
+
+  ended : (progress .rest ≡ []) × (holds (answer .part) (progress .part) ≡ x)
   ended = at-the-end (progress .later)
 
-  parts : l ≡ (methodNumber (call .method) ∷ call .count ∷ (bitsOf (call .coefficients) ++ ruleRow (call .method) (call .eps) (call .limit))) ++ (answerRow (answer .part) ++ progressRow (progress .part))
+  parts : l ≡ itsCall (call .coefficients) ++ (answerRow (answer .part) ++ progressRow (progress .part))
   parts =
       call .is
-      ∙ ap (λ (s : List ℕ). (methodNumber (call .method) ∷ call .count ∷ (bitsOf (call .coefficients) ++ ruleRow (call .method) (call .eps) (call .limit))) ++ s)
+      ∙ ap (λ (s : List ℕ). itsCall (call .coefficients) ++ s)
       (answer .is ∙ ap (λ (s : List ℕ). answerRow (answer .part) ++ s) (progress .is ∙ ap (λ (s : List ℕ). progressRow (progress .part) ++ s) (ended .0) ∙ append-nil (progressRow (progress .part))))
 
   kept : take (call .count) (padded (call .coefficients)) ≡ call .coefficients
@@ -429,10 +598,12 @@ module _ {l : List ℕ} {x : Record} (r : Row recordLayout l x) where
   row-sound =
       subst Sound (ended .1)
       (record {
+        kind = call .kind-small;
         all = all-there;
         coefficients = subst Held (sym kept) (call .held);
         starts = call .starts-held;
-        eps = call .eps-held;
+        value-tolerance = call .value-held;
+        point-tolerance = call .point-held;
         limit = call .limit-small;
         numbers = answer .held;
         steps = progress .steps;
@@ -440,19 +611,23 @@ module _ {l : List ℕ} {x : Record} (r : Row recordLayout l x) where
         derivatives = progress .derivatives;
       })
 
+  -- its kind has room for both tolerances
+  pub row-both : holdsBoth (x .kind) (x .tolerances) ≡ true
+  row-both = subst (λ (o : Record). holdsBoth (o .kind) (o .tolerances) ≡ true) (ended .1) (call .both)
+
   -- whatever reads is the row of what it holds
   pub row-back : rowOf x ≡ l
   unfolding rowOf callRow
   row-back =
       ap rowOf (sym (ended .1))
-      ∙ ap (λ (c : List Float). (methodNumber (call .method) ∷ call .count ∷ (bitsOf c ++ ruleRow (call .method) (call .eps) (call .limit))) ++ (answerRow (answer .part) ++ progressRow (progress .part))) kept
+      ∙ ap (λ (c : List Float). itsCall c ++ (answerRow (answer .part) ++ progressRow (progress .part))) kept
       ∙ sym parts
 
-  -- the longest: 194 bytes of the call, 31 of the answer and 31 of the tallies and the mark
-  pub at-most-256 : length (spell l) ≤ 256
-  at-most-256 =
+  -- the longest: 206 bytes of the call, 31 of the answer and 31 of the tallies and the mark
+  pub at-most-longest : length (spell l) ≤ longestRecord
+  at-most-longest =
       let a = ap (λ (s : List ℕ). length (spell s)) parts in
-      let b = spelled-both (methodNumber (call .method) ∷ call .count ∷ (bitsOf (call .coefficients) ++ ruleRow (call .method) (call .eps) (call .limit))) (answerRow (answer .part) ++ progressRow (progress .part)) in
+      let b = spelled-both (itsCall (call .coefficients)) (answerRow (answer .part) ++ progressRow (progress .part)) in
       let c = spelled-both (answerRow (answer .part)) (progressRow (progress .part)) in
       let d = call .short in
       let e = answer .short in

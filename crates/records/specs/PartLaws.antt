@@ -17,7 +17,8 @@ use Rattle.numerical.specs.declared.Answer.{Answer}
 use Rattle.numerical.specs.declared.Answer.the-variants.{ByValue, ByWidth, Refused}
 use Rattle.numerical.specs.declared.Outcome.{Outcome}
 use Rattle.numerical.specs.declared.Progress.{Progress}
-use Rattle.simple_convergency.specs.Stop.{greatestLimit, mostCoefficients}
+use Rattle.simple_convergency.specs.Stop.{greatestLimit, oneEps, mostCoefficients}
+use Rattle.simple_convergency.specs.declared.Tolerances.{Tolerances}
 use Rattle.roots.specs.Methods.{startCount, methodOf}
 use Rattle.roots.specs.declared.Method.{Method}
 use Rattle.roots.specs.declared.Method.the-variants.{Brent}
@@ -26,8 +27,8 @@ use Rattle.rows.specs.Layouts.{Layout, end, number, Read, held, wrong, read, To
 use Rattle.rows.specs.LayoutLaws.{goes-here, goes-on, goes-wrong, number-wrong, number-goes}
 use Rattle.rows.specs.declared.Taken.{Taken}
 use Rattle.rows.specs.declared.Taken.the-variants as taken
-use Rattle.records.specs.Records.{between, isDouble, isEps, isKind, isTally, numbersFor, answerOf, startedAt, noughts, padded, progressOf, doubles, recordLayout, blank, noRecord, told, readingOf}
-use Rattle.records.specs.Parts.{ruleLayout, callLayout, answerLayout, progressLayout, TookIf, TookDouble, DoubleTook, FilledTo, Filled, RuleTook, CallTaken, CallTook, AnswerTook, ProgressTook}
+use Rattle.records.specs.Records.{between, isDouble, isTolerance, isKind, isTally, numbersFor, answerOf, startedAt, noughts, padded, progressOf, doubles, behindZero, headed, withPoint, tolerancesFor, recordLayout, blank, noRecord, told, readingOf}
+use Rattle.records.specs.Parts.{ruleLayout, callLayout, answerLayout, progressLayout, TookIf, TookDouble, DoubleTook, FilledTo, Filled, HeadTaken, HeadTook, TolerancesTook, RuleTook, CallTaken, CallTook, AnswerTook, ProgressTook}
 use Rattle.records.specs.ReadLaws.{none-taken, passed, Behind, behind-test}
 use Rattle.records.specs.declared.Record.{Record}
 use Rattle.records.specs.declared.Reading.{Reading}
@@ -37,6 +38,10 @@ use Rattle.records.specs.declared.TakenDouble.{TakenDouble}
 use Rattle.records.specs.declared.TakenDouble.the-variants as taken-double
 use Rattle.records.specs.declared.Place.{Place}
 use Rattle.records.specs.declared.Place.the-variants as place
+use Rattle.records.specs.declared.HeadRead.{HeadRead}
+use Rattle.records.specs.declared.HeadRead.the-variants as head-read
+use Rattle.records.specs.declared.TolerancesRead.{TolerancesRead}
+use Rattle.records.specs.declared.TolerancesRead.the-variants as tolerances-read
 use Rattle.records.specs.declared.RuleRead.{RuleRead}
 use Rattle.records.specs.declared.RuleRead.the-variants as rule-read
 use Rattle.records.specs.declared.CallRead.{CallRead}
@@ -46,8 +51,9 @@ use Rattle.records.specs.declared.AnswerRead.the-variants as answer-read
 use Rattle.records.specs.declared.ProgressRead.{ProgressRead}
 use Rattle.records.specs.declared.ProgressRead.the-variants as progress-read
 
-pub blank-is : {o : Outcome} → o ≡ refusedAtOnce 0 → record { coefficients = noughts; count = 0; method = Brent nought nought; eps = nought; limit = 0; outcome = o } ≡ blank
-blank-is e = rw e
+pub blank-is :
+    {t : Tolerances} {o : Outcome} → t ≡ oneEps nought → o ≡ refusedAtOnce 0 → record { kind = 0; coefficients = noughts; count = 0; method = Brent nought nought; tolerances = t; limit = 0; outcome = o } ≡ blank
+blank-is e f = rw (e, f)
 
 -- ---- what each call found, as a fact about numbers
 
@@ -84,11 +90,33 @@ module _ (k : ℕ) (s : List ℕ) (at : ℕ) (before a : List Float) {r : Place}
   pub filled-place : {p : ℕ} → r ≡ place.At p → p ≤ length s
   filled-place q = filled-is q .goes (λ l. end blank) .within
 
-module _ (m : ℕ) (s : List ℕ) (at : ℕ) {r : RuleRead} (g : RuleTook m s at r) where
-  pub rule-goes : {method : Method} {eps : Float} {limit p : ℕ} → r ≡ rule-read.Is method eps limit p → (next : Method → Float → ℕ → Layout Record) → Goes (ruleLayout m next) s at (next method eps limit) p
+module _ (s : List ℕ) {r : HeadRead} (g : HeadTook s r) where
+  pub head-is : {kind m p : ℕ} → r ≡ head-read.Is kind m p → HeadTaken s kind m p
+  head-is q = rw q at g
+
+  pub head-none : r ≡ head-read.Wrong → (next : ℕ → ℕ → Layout Record) → Fails (headed next) s 0
+  head-none q = rw q at g
+
+  pub method-fits : {kind m p : ℕ} → r ≡ head-read.Is kind m p → Fits w8 m
+  method-fits q = let l = head-is q .known in record { fits = omega arith }
+
+  pub head-place : {kind m p : ℕ} → r ≡ head-read.Is kind m p → p ≤ length s
+  head-place q = head-is q .goes (λ k m. end blank) .within
+
+module _ (kind : ℕ) (s : List ℕ) (at : ℕ) {r : TolerancesRead} (g : TolerancesTook kind s at r) where
+  pub tolerances-go : {tolerances : Tolerances} {p : ℕ} → r ≡ tolerances-read.Is tolerances p → (next : Tolerances → Layout Record) → Goes (tolerancesFor kind next) s at (next tolerances) p
+  tolerances-go q = rw q at g
+
+  pub tolerances-none : r ≡ tolerances-read.Wrong → (next : Tolerances → Layout Record) → Fails (tolerancesFor kind next) s at
+  tolerances-none q = rw q at g
+
+module _ (kind m : ℕ) (s : List ℕ) (at : ℕ) {r : RuleRead} (g : RuleTook kind m s at r) where
+  pub rule-goes :
+      {method : Method} {tolerances : Tolerances} {limit p : ℕ} → r ≡ rule-read.Is method tolerances limit p → (next : Method → Tolerances → ℕ → Layout Record) →
+      Goes (ruleLayout kind m next) s at (next method tolerances limit) p
   rule-goes q = rw q at g
 
-  pub rule-none : r ≡ rule-read.Wrong → (next : Method → Float → ℕ → Layout Record) → Fails (ruleLayout m next) s at
+  pub rule-none : r ≡ rule-read.Wrong → (next : Method → Tolerances → ℕ → Layout Record) → Fails (ruleLayout kind m next) s at
   rule-none q = rw q at g
 
 -- a number that passed a test of its size
@@ -155,7 +183,93 @@ module _ (s : List ℕ) (at : ℕ) {a : Taken} (x : Took s at a) where
               pub progress-is : {l u : ℕ} → d ≡ taken.Is l u → ProgressTook s at (progress-read.Is (progressOf i j k l) u)
               progress-is h next = goes-on (derivatives-read next) (number-goes (between 0 2) (λ l. next (progressOf i j k l)) (if-is (between 0 2) s t w h))
 
--- ---- the starts, eps and the limit
+-- ---- the kind and the method
+
+abbrev afterFirst : (ℕ → ℕ → Layout Record) → ℕ → Layout Record
+afterFirst next first = cond (eqb first 0) (behindZero next) (next 1 first)
+
+module _ (s : List ℕ) {a : Taken} (x : TookIf (between 0 5) s 0 a) where
+  pub no-first : a ≡ taken.Wrong → HeadTook s head-read.Wrong
+  unfolding headed
+  no-first e next = number-wrong (between 0 5) (afterFirst next) (if-none (between 0 5) s 0 x e)
+
+  module _ {i p : ℕ} (e : a ≡ taken.Is i p) where
+    first-read : (next : ℕ → ℕ → Layout Record) → Goes (headed next) s 0 (afterFirst next i) p
+    unfolding headed
+    first-read next = number-goes (between 0 5) (afterFirst next) (if-is (between 0 5) s 0 x e)
+
+    pub old-head : (i ≡ 0 → ⊥) → HeadTook s (head-read.Is 1 i p)
+    old-head z =
+        record {
+          goes = λ next. subst (λ (b : Bool). Goes (headed next) s 0 (cond b (behindZero next) (next 1 i)) p) (ne-eqb i 0 z) (first-read next);
+          known = at-most 0 5 s 0 x e;
+        }
+
+    module _ (z : i ≡ 0) where
+      zero-read : (next : ℕ → ℕ → Layout Record) → Goes (headed next) s 0 (behindZero next) p
+      zero-read next = subst (λ (b : Bool). Goes (headed next) s 0 (cond b (behindZero next) (next 1 i)) p) (eq-eqb i 0 z) (first-read next)
+
+      module _ {b : Taken} (y : TookIf (between 2 2) s p b) where
+        pub no-second : b ≡ taken.Wrong → HeadTook s head-read.Wrong
+        no-second f next = goes-wrong (zero-read next) (number-wrong (between 2 2) (λ kind. number (between 1 5) (λ method. next kind method)) (if-none (between 2 2) s p y f))
+
+        module _ {kind q : ℕ} (f : b ≡ taken.Is kind q) where
+          kind-first : (next : ℕ → ℕ → Layout Record) → Goes (headed next) s 0 (number (between 1 5) (λ method. next kind method)) q
+          kind-first next = goes-on (zero-read next) (number-goes (between 2 2) (λ kind. number (between 1 5) (λ method. next kind method)) (if-is (between 2 2) s p y f))
+
+          module _ {c : Taken} (w : TookIf (between 1 5) s q c) where
+            pub no-method : c ≡ taken.Wrong → HeadTook s head-read.Wrong
+            no-method g next = goes-wrong (kind-first next) (number-wrong (between 1 5) (next kind) (if-none (between 1 5) s q w g))
+
+            pub new-head : {m t : ℕ} → c ≡ taken.Is m t → HeadTook s (head-read.Is kind m t)
+            new-head g = record { goes = λ next. goes-on (kind-first next) (number-goes (between 1 5) (next kind) (if-is (between 1 5) s q w g)); known = at-most 1 5 s q w g }
+
+-- ---- the tolerances
+
+abbrev afterValue : ℕ → (Tolerances → Layout Record) → ℕ → Layout Record
+afterValue kind next value =
+    cond (eqb kind 1) (next (oneEps (ofBits binary64 value))) (withPoint next value)
+
+module _ (kind : ℕ) (s : List ℕ) (at : ℕ) {a : TakenDouble} (x : DoubleTook isTolerance s at a) where
+  pub no-value : a ≡ taken-double.Wrong → TolerancesTook kind s at tolerances-read.Wrong
+  unfolding tolerancesFor
+  no-value e next = number-wrong isTolerance (afterValue kind next) (double-none isTolerance s at x e)
+
+  module _ {value : Float} {p : ℕ} (e : a ≡ taken-double.Is value p) where
+    took-value : TookDouble isTolerance s at value p
+    took-value = double-is isTolerance s at x e
+
+    value-read : (next : Tolerances → Layout Record) → Goes (tolerancesFor kind next) s at (afterValue kind next (took-value .bits)) p
+    unfolding tolerancesFor
+    value-read next = number-goes isTolerance (afterValue kind next) (took-value .took)
+
+    pub one-tolerance : {t : Tolerances} → kind ≡ 1 → t ≡ oneEps value → TolerancesTook kind s at (tolerances-read.Is t p)
+    one-tolerance z f next =
+        rw (f, took-value .is)
+        (subst
+        (λ (b : Bool). Goes (tolerancesFor kind next) s at (cond b (next (oneEps (ofBits binary64 (took-value .bits)))) (withPoint next (took-value .bits))) p)
+        (eq-eqb kind 1 z)
+        (value-read next))
+
+    module _ (z : kind ≡ 1 → ⊥) where
+      more : (next : Tolerances → Layout Record) → Goes (tolerancesFor kind next) s at (withPoint next (took-value .bits)) p
+      more next =
+          subst
+          (λ (b : Bool). Goes (tolerancesFor kind next) s at (cond b (next (oneEps (ofBits binary64 (took-value .bits)))) (withPoint next (took-value .bits))) p)
+          (ne-eqb kind 1 z)
+          (value-read next)
+
+      module _ {b : TakenDouble} (y : DoubleTook isTolerance s p b) where
+        pub no-point : b ≡ taken-double.Wrong → TolerancesTook kind s at tolerances-read.Wrong
+        no-point f next = goes-wrong (more next) (number-wrong isTolerance (λ point. next (record { value = ofBits binary64 (took-value .bits); point = ofBits binary64 point })) (double-none isTolerance s p y f))
+
+        pub two-tolerances : {point : Float} {q : ℕ} → b ≡ taken-double.Is point q → TolerancesTook kind s at (tolerances-read.Is (record { value = value; point = point }) q)
+        two-tolerances f next =
+            let t = double-is isTolerance s p y f in
+            rw (took-value .is, t .is)
+            (goes-on (more next) (number-goes isTolerance (λ point. next (record { value = ofBits binary64 (took-value .bits); point = ofBits binary64 point })) (t .took)))
+
+-- ---- the starts, the tolerances and the limit
 
 two : (b : List Float) → length b ≡ 2 → b ≡ getD b 0 nan ∷ getD b 1 nan ∷ []
 two [] h = absurd (omega arith)
@@ -180,42 +294,39 @@ module _ (m : ℕ) where
   unfolding startCount startedAt
   started k b e h = same-starts (getD b 0 nan) (getD b 1 nan) k (eqb m 4) refl e ∙ ap (λ (l : List Float). methodOf m (getD (take k l) 0 nan) (getD (take k l) 1 nan)) (sym (two b h))
 
-abbrev afterStarts : ℕ → (Method → Float → ℕ → Layout Record) → List Float → Layout Record
-afterStarts m next starts = number isEps (λ eps. number (between 0 greatestLimit) (λ limit. next (startedAt m starts) (ofBits binary64 eps) limit))
+abbrev afterStarts : ℕ → ℕ → (Method → Tolerances → ℕ → Layout Record) → List Float → Layout Record
+afterStarts kind m next starts = tolerancesFor kind (λ tolerances. number (between 0 greatestLimit) (λ limit. next (startedAt m starts) tolerances limit))
 
-abbrev afterEps : ℕ → (Method → Float → ℕ → Layout Record) → List Float → ℕ → Layout Record
-afterEps m next starts eps = number (between 0 greatestLimit) (λ limit. next (startedAt m starts) (ofBits binary64 eps) limit)
+abbrev afterTolerances : ℕ → (Method → Tolerances → ℕ → Layout Record) → List Float → Tolerances → Layout Record
+afterTolerances m next starts tolerances = number (between 0 greatestLimit) (λ limit. next (startedAt m starts) tolerances limit)
 
-module _ (m : ℕ) (s : List ℕ) (at : ℕ) (before b : List Float) {k : ℕ} (e : k ≡ startCount m) {r : Place} (x : Filled k s at before b r) where
-  pub no-starts : r ≡ place.Wrong → RuleTook m s at rule-read.Wrong
+module _ (kind m : ℕ) (s : List ℕ) (at : ℕ) (before b : List Float) {k : ℕ} (e : k ≡ startCount m) {r : Place} (x : Filled k s at before b r) where
+  pub no-starts : r ≡ place.Wrong → RuleTook kind m s at rule-read.Wrong
   unfolding ruleLayout
-  no-starts f next = rw (← e) (filled-none k s at before b x f (afterStarts m next))
+  no-starts f next = rw (← e) (filled-none k s at before b x f (afterStarts kind m next))
 
   module _ {p : ℕ} (f : r ≡ place.At p) where
-    starts-read : (next : Method → Float → ℕ → Layout Record) → Goes (ruleLayout m next) s at (afterStarts m next (take k b)) p
+    starts-read : (next : Method → Tolerances → ℕ → Layout Record) → Goes (ruleLayout kind m next) s at (afterStarts kind m next (take k b)) p
     unfolding ruleLayout
-    starts-read next = rw (← e) (filled-is k s at before b x f .goes (afterStarts m next))
+    starts-read next = rw (← e) (filled-is k s at before b x f .goes (afterStarts kind m next))
 
-    module _ {t : TakenDouble} (y : DoubleTook isEps s p t) where
-      pub no-eps : t ≡ taken-double.Wrong → RuleTook m s at rule-read.Wrong
-      no-eps g next = goes-wrong (starts-read next) (number-wrong isEps (afterEps m next (take k b)) (double-none isEps s p y g))
+    module _ {t : TolerancesRead} (y : TolerancesTook kind s p t) where
+      pub no-tolerances : t ≡ tolerances-read.Wrong → RuleTook kind m s at rule-read.Wrong
+      no-tolerances g next = goes-wrong (starts-read next) (tolerances-none kind s p y g (afterTolerances m next (take k b)))
 
-      module _ {eps : Float} {q : ℕ} (g : t ≡ taken-double.Is eps q) where
-        took-eps : TookDouble isEps s p eps q
-        took-eps = double-is isEps s p y g
-
-        eps-read : (next : Method → Float → ℕ → Layout Record) → Goes (ruleLayout m next) s at (afterEps m next (take k b) (took-eps .bits)) q
-        eps-read next = goes-on (starts-read next) (number-goes isEps (afterEps m next (take k b)) (took-eps .took))
+      module _ {tolerances : Tolerances} {q : ℕ} (g : t ≡ tolerances-read.Is tolerances q) where
+        tolerances-read-are : (next : Method → Tolerances → ℕ → Layout Record) → Goes (ruleLayout kind m next) s at (afterTolerances m next (take k b) tolerances) q
+        tolerances-read-are next = goes-on (starts-read next) (tolerances-go kind s p y g (afterTolerances m next (take k b)))
 
         module _ {v : Taken} (z : TookIf (between 0 greatestLimit) s q v) where
-          pub no-limit : v ≡ taken.Wrong → RuleTook m s at rule-read.Wrong
-          no-limit h next = goes-wrong (eps-read next) (number-wrong (between 0 greatestLimit) (λ limit. next (startedAt m (take k b)) (ofBits binary64 (took-eps .bits)) limit) (if-none (between 0 greatestLimit) s q z h))
+          pub no-limit : v ≡ taken.Wrong → RuleTook kind m s at rule-read.Wrong
+          no-limit h next = goes-wrong (tolerances-read-are next) (number-wrong (between 0 greatestLimit) (λ limit. next (startedAt m (take k b)) tolerances limit) (if-none (between 0 greatestLimit) s q z h))
 
-          pub rule-is : {limit u : ℕ} {method : Method} → v ≡ taken.Is limit u → length b ≡ 2 → method ≡ methodOf m (getD b 0 nan) (getD b 1 nan) → RuleTook m s at (rule-read.Is method eps limit u)
+          pub rule-is :
+              {limit u : ℕ} {method : Method} → v ≡ taken.Is limit u → length b ≡ 2 → method ≡ methodOf m (getD b 0 nan) (getD b 1 nan) → RuleTook kind m s at (rule-read.Is method tolerances limit u)
           rule-is {limit} {u} {method} h l n next =
-              subst (λ (c : Layout Record). Goes (ruleLayout m next) s at c u)
-              (ap (λ (w : Method). next w (ofBits binary64 (took-eps .bits)) limit) (sym (n ∙ started m k b e l)) ∙ ap (λ (w : Float). next method w limit) (sym (took-eps .is)))
-              (goes-on (eps-read next) (number-goes (between 0 greatestLimit) (λ limit. next (startedAt m (take k b)) (ofBits binary64 (took-eps .bits)) limit) (if-is (between 0 greatestLimit) s q z h)))
+              subst (λ (w : Method). Goes (ruleLayout kind m next) s at (next w tolerances limit) u) (sym (n ∙ started m k b e l))
+              (goes-on (tolerances-read-are next) (number-goes (between 0 greatestLimit) (λ limit. next (startedAt m (take k b)) tolerances limit) (if-is (between 0 greatestLimit) s q z h)))
 
 -- at most two starts
 pub few-starts : (m : ℕ) {k : ℕ} → k ≡ startCount m → k ≤ 2
@@ -228,46 +339,49 @@ few-starts m {k} e = go (eqb m 4) e
 
 -- ---- a call
 
-abbrev afterMethod : (List Float → ℕ → Method → Float → ℕ → Layout Record) → ℕ → Layout Record
-afterMethod next m = number (between 1 mostCoefficients) (λ n. doubles n (λ l. ruleLayout m (next l n)))
+abbrev pub CallNext : Type 0
+CallNext = ℕ → List Float → ℕ → Method → Tolerances → ℕ → Layout Record
 
-abbrev afterCount : (List Float → ℕ → Method → Float → ℕ → Layout Record) → ℕ → ℕ → Layout Record
-afterCount next m n = doubles n (λ l. ruleLayout m (next l n))
+abbrev afterHead : CallNext → ℕ → ℕ → Layout Record
+afterHead next kind m = number (between 1 mostCoefficients) (λ n. doubles n (λ l. ruleLayout kind m (next kind l n)))
 
-module _ (s : List ℕ) (before a : List Float) {c : Taken} (x : TookIf (between 1 5) s 0 c) where
-  pub no-method : c ≡ taken.Wrong → CallTook s before a call-read.Wrong
+abbrev afterCount : CallNext → ℕ → ℕ → ℕ → Layout Record
+afterCount next kind m n = doubles n (λ l. ruleLayout kind m (next kind l n))
+
+module _ (s : List ℕ) (before a : List Float) {c : HeadRead} (x : HeadTook s c) where
+  pub no-head : c ≡ head-read.Wrong → CallTook s before a call-read.Wrong
   unfolding callLayout
-  no-method e next = number-wrong (between 1 5) (afterMethod next) (if-none (between 1 5) s 0 x e)
+  no-head e next = head-none s x e (afterHead next)
 
-  module _ {m p : ℕ} (e : c ≡ taken.Is m p) where
-    method-read : (next : List Float → ℕ → Method → Float → ℕ → Layout Record) → Goes (callLayout next) s 0 (afterMethod next m) p
+  module _ {kind m p : ℕ} (e : c ≡ head-read.Is kind m p) where
+    head-read-is : (next : CallNext) → Goes (callLayout next) s 0 (afterHead next kind m) p
     unfolding callLayout
-    method-read next = number-goes (between 1 5) (afterMethod next) (if-is (between 1 5) s 0 x e)
+    head-read-is next = head-is s x e .goes (afterHead next)
 
     module _ {d : Taken} (y : TookIf (between 1 mostCoefficients) s p d) where
       pub no-count : d ≡ taken.Wrong → CallTook s before a call-read.Wrong
-      no-count f next = goes-wrong (method-read next) (number-wrong (between 1 mostCoefficients) (afterCount next m) (if-none (between 1 mostCoefficients) s p y f))
+      no-count f next = goes-wrong (head-read-is next) (number-wrong (between 1 mostCoefficients) (afterCount next kind m) (if-none (between 1 mostCoefficients) s p y f))
 
       module _ {n q : ℕ} (f : d ≡ taken.Is n q) where
-        count-read : (next : List Float → ℕ → Method → Float → ℕ → Layout Record) → Goes (callLayout next) s 0 (afterCount next m n) q
-        count-read next = goes-on (method-read next) (number-goes (between 1 mostCoefficients) (afterCount next m) (if-is (between 1 mostCoefficients) s p y f))
+        count-read : (next : CallNext) → Goes (callLayout next) s 0 (afterCount next kind m n) q
+        count-read next = goes-on (head-read-is next) (number-goes (between 1 mostCoefficients) (afterCount next kind m) (if-is (between 1 mostCoefficients) s p y f))
 
         module _ {r : Place} (z : Filled n s q before a r) where
           pub no-coefficients : r ≡ place.Wrong → CallTook s before a call-read.Wrong
-          no-coefficients g next = goes-wrong (count-read next) (filled-none n s q before a z g (λ l. ruleLayout m (next l n)))
+          no-coefficients g next = goes-wrong (count-read next) (filled-none n s q before a z g (λ l. ruleLayout kind m (next kind l n)))
 
           module _ {t : ℕ} (g : r ≡ place.At t) where
-            coefficients-read : (next : List Float → ℕ → Method → Float → ℕ → Layout Record) → Goes (callLayout next) s 0 (ruleLayout m (next (take n a) n)) t
-            coefficients-read next = goes-on (count-read next) (filled-is n s q before a z g .goes (λ l. ruleLayout m (next l n)))
+            coefficients-read : (next : CallNext) → Goes (callLayout next) s 0 (ruleLayout kind m (next kind (take n a) n)) t
+            coefficients-read next = goes-on (count-read next) (filled-is n s q before a z g .goes (λ l. ruleLayout kind m (next kind l n)))
 
-            module _ {o : RuleRead} (w : RuleTook m s t o) where
+            module _ {o : RuleRead} (w : RuleTook kind m s t o) where
               pub no-rule : o ≡ rule-read.Wrong → CallTook s before a call-read.Wrong
-              no-rule h next = goes-wrong (coefficients-read next) (rule-none m s t w h (next (take n a) n))
+              no-rule h next = goes-wrong (coefficients-read next) (rule-none kind m s t w h (next kind (take n a) n))
 
-              pub call-is : {method : Method} {eps : Float} {limit u : ℕ} → o ≡ rule-read.Is method eps limit u → CallTook s before a (call-read.Is n method eps limit u)
+              pub call-is : {method : Method} {tolerances : Tolerances} {limit u : ℕ} → o ≡ rule-read.Is method tolerances limit u → CallTook s before a (call-read.Is kind n method tolerances limit u)
               call-is h =
                   record {
-                    goes = λ next. goes-on (coefficients-read next) (rule-goes m s t w h (next (take n a) n));
+                    goes = λ next. goes-on (coefficients-read next) (rule-goes kind m s t w h (next kind (take n a) n));
                     behind = filled-is n s q before a z g .behind;
                     few = at-most 1 mostCoefficients s p y f;
                   }
@@ -346,12 +460,12 @@ module _ (s : List ℕ) (at : ℕ) {t : Taken} (g : TookIf isKind s at t) where
 
 -- ---- a record
 
-abbrev pub recordHeld : List Float → ℕ → Method → Float → ℕ → Answer → Progress → Record
-recordHeld coefficients count method eps limit answer progress =
-    record { coefficients = padded coefficients; count = count; method = method; eps = eps; limit = limit; outcome = record { answer = answer; progress = progress } }
+abbrev pub recordHeld : ℕ → List Float → ℕ → Method → Tolerances → ℕ → Answer → Progress → Record
+recordHeld kind coefficients count method tolerances limit answer progress =
+    record { kind = kind; coefficients = padded coefficients; count = count; method = method; tolerances = tolerances; limit = limit; outcome = record { answer = answer; progress = progress } }
 
-abbrev pub afterCall : List Float → ℕ → Method → Float → ℕ → Layout Record
-afterCall coefficients count method eps limit = answerLayout (λ answer. progressLayout (λ progress. end (recordHeld coefficients count method eps limit answer progress)))
+abbrev pub afterCall : CallNext
+afterCall kind coefficients count method tolerances limit = answerLayout (λ answer. progressLayout (λ progress. end (recordHeld kind coefficients count method tolerances limit answer progress)))
 
 -- the record's layout is that of its parts
 pub by-parts : recordLayout ≡ callLayout afterCall
@@ -374,48 +488,48 @@ module _ (s : List ℕ) (a : List Float) {c : CallRead} (x : CallTook s noughts 
   pub record-no-call : {b : Reading} → b ≡ noRecord → c ≡ call-read.Wrong → b ≡ readingOf s
   record-no-call e q = refused s e (rw by-parts (no afterCall))
     where
-      no : (next : List Float → ℕ → Method → Float → ℕ → Layout Record) → Fails (callLayout next) s 0
+      no : (next : CallNext) → Fails (callLayout next) s 0
       no = rw q at x
 
-  module _ {n : ℕ} {m : Method} {eps : Float} {limit p : ℕ} (q : c ≡ call-read.Is n m eps limit p) where
-    call-taken : CallTaken s noughts a n m eps limit p
+  module _ {kind n : ℕ} {m : Method} {tolerances : Tolerances} {limit p : ℕ} (q : c ≡ call-read.Is kind n m tolerances limit p) where
+    call-taken : CallTaken s noughts a kind n m tolerances limit p
     call-taken = rw q at x
 
-    call-read-is : Goes recordLayout s 0 (afterCall (take n a) n m eps limit) p
+    call-read-is : Goes recordLayout s 0 (afterCall kind (take n a) n m tolerances limit) p
     call-read-is = rw by-parts (call-taken .goes afterCall)
 
     module _ {b : AnswerRead} (y : AnswerTook s p b) where
       pub record-no-answer : {r : Reading} → r ≡ noRecord → b ≡ answer-read.Wrong → r ≡ readingOf s
-      record-no-answer e z = refused s e (goes-wrong call-read-is (no (λ answer. progressLayout (λ progress. end (recordHeld (take n a) n m eps limit answer progress)))))
+      record-no-answer e z = refused s e (goes-wrong call-read-is (no (λ answer. progressLayout (λ progress. end (recordHeld kind (take n a) n m tolerances limit answer progress)))))
         where
           no : (next : Answer → Layout Record) → Fails (answerLayout next) s p
           no = rw z at y
 
       module _ {answer : Answer} {t : ℕ} (z : b ≡ answer-read.Is answer t) where
-        answer-read-is : Goes recordLayout s 0 (progressLayout (λ progress. end (recordHeld (take n a) n m eps limit answer progress))) t
-        answer-read-is = goes-on call-read-is (yes (λ answer. progressLayout (λ progress. end (recordHeld (take n a) n m eps limit answer progress))))
+        answer-read-is : Goes recordLayout s 0 (progressLayout (λ progress. end (recordHeld kind (take n a) n m tolerances limit answer progress))) t
+        answer-read-is = goes-on call-read-is (yes (λ answer. progressLayout (λ progress. end (recordHeld kind (take n a) n m tolerances limit answer progress))))
           where
             yes : (next : Answer → Layout Record) → Goes (answerLayout next) s p (next answer) t
             yes = rw z at y
 
         module _ {d : ProgressRead} (w : ProgressTook s t d) where
           pub record-no-progress : {r : Reading} → r ≡ noRecord → d ≡ progress-read.Wrong → r ≡ readingOf s
-          record-no-progress e f = refused s e (goes-wrong answer-read-is (no (λ progress. end (recordHeld (take n a) n m eps limit answer progress))))
+          record-no-progress e f = refused s e (goes-wrong answer-read-is (no (λ progress. end (recordHeld kind (take n a) n m tolerances limit answer progress))))
             where
               no : (next : Progress → Layout Record) → Fails (progressLayout next) s t
               no = rw f at w
 
           pub record-is :
               {progress : Progress} {u : ℕ} → d ≡ progress-read.Is progress u → length a ≡ mostCoefficients →
-              record { verdict = verdict.Bytes u; content = record { coefficients = a; count = n; method = m; eps = eps; limit = limit; outcome = record { answer = answer; progress = progress } } } ≡ readingOf s
+              record { verdict = verdict.Bytes u; content = record { kind = kind; coefficients = a; count = n; method = m; tolerances = tolerances; limit = limit; outcome = record { answer = answer; progress = progress } } } ≡ readingOf s
           unfolding readingOf read
-          record-is {progress} {u} f l = rw (whole .is) (λ i. record { verdict = verdict.Bytes (long i); content = record { coefficients = coefficients′ i; count = n; method = m; eps = eps; limit = limit; outcome = record { answer = answer; progress = progress } } })
+          record-is {progress} {u} f l = rw (whole .is) (λ i. record { verdict = verdict.Bytes (long i); content = record { kind = kind; coefficients = coefficients′ i; count = n; method = m; tolerances = tolerances; limit = limit; outcome = record { answer = answer; progress = progress } } })
             where
               yes : (next : Progress → Layout Record) → Goes (progressLayout next) s t (next progress) u
               yes = rw f at w
 
-              whole : Goes recordLayout s 0 (end (recordHeld (take n a) n m eps limit answer progress)) u
-              whole = goes-on answer-read-is (yes (λ progress. end (recordHeld (take n a) n m eps limit answer progress)))
+              whole : Goes recordLayout s 0 (end (recordHeld kind (take n a) n m tolerances limit answer progress)) u
+              whole = goes-on answer-read-is (yes (λ progress. end (recordHeld kind (take n a) n m tolerances limit answer progress)))
 
               long : u ≡ length s - length (drop u s)
               long = let h = whole .within in let j = length-drop u s in omega arith

@@ -8,17 +8,22 @@ use lib.Ieee.{Float, binary64, ofBits}
 use Rattle.numerical.specs.declared.Answer.{Answer}
 use Rattle.numerical.specs.declared.Progress.{Progress}
 use Rattle.simple_convergency.specs.Stop.{greatestLimit, mostCoefficients}
+use Rattle.simple_convergency.specs.declared.Tolerances.{Tolerances}
 use Rattle.roots.specs.Methods.{startCount}
 use Rattle.roots.specs.declared.Method.{Method}
 use Rattle.rows.specs.Layouts.{Layout, end, number, Read, held, wrong, read, TookNumber, NoNumber, Goes, Fails}
 use Rattle.rows.specs.declared.Taken.{Taken}
 use Rattle.rows.specs.declared.Taken.the-variants as taken
-use Rattle.records.specs.Records.{between, isDouble, isEps, isKind, isTally, numbersFor, answerOf, startedAt, progressOf, doubles, recordLayout}
+use Rattle.records.specs.Records.{between, isDouble, isKind, isTally, numbersFor, answerOf, startedAt, progressOf, doubles, headed, tolerancesFor, recordLayout}
 use Rattle.records.specs.declared.Record.{Record}
 use Rattle.records.specs.declared.TakenDouble.{TakenDouble}
 use Rattle.records.specs.declared.TakenDouble.the-variants as taken-double
 use Rattle.records.specs.declared.Place.{Place}
 use Rattle.records.specs.declared.Place.the-variants as place
+use Rattle.records.specs.declared.HeadRead.{HeadRead}
+use Rattle.records.specs.declared.HeadRead.the-variants as head-read
+use Rattle.records.specs.declared.TolerancesRead.{TolerancesRead}
+use Rattle.records.specs.declared.TolerancesRead.the-variants as tolerances-read
 use Rattle.records.specs.declared.RuleRead.{RuleRead}
 use Rattle.records.specs.declared.RuleRead.the-variants as rule-read
 use Rattle.records.specs.declared.CallRead.{CallRead}
@@ -30,11 +35,11 @@ use Rattle.records.specs.declared.ProgressRead.the-variants as progress-
 
 -- ---- the layouts of the parts: `next` is what follows
 
-unfoldable pub ruleLayout : ℕ → (Method → Float → ℕ → Layout Record) → Layout Record
-ruleLayout method next = doubles (startCount method) λ starts. number isEps λ eps. number (between 0 greatestLimit) λ limit. next (startedAt method starts) (ofBits binary64 eps) limit
+unfoldable pub ruleLayout : ℕ → ℕ → (Method → Tolerances → ℕ → Layout Record) → Layout Record
+ruleLayout kind method next = doubles (startCount method) λ starts. tolerancesFor kind λ tolerances. number (between 0 greatestLimit) λ limit. next (startedAt method starts) tolerances limit
 
-unfoldable pub callLayout : (List Float → ℕ → Method → Float → ℕ → Layout Record) → Layout Record
-callLayout next = number (between 1 5) λ method. number (between 1 mostCoefficients) λ count. doubles count λ coefficients. ruleLayout method (next coefficients count)
+unfoldable pub callLayout : (ℕ → List Float → ℕ → Method → Tolerances → ℕ → Layout Record) → Layout Record
+callLayout next = headed λ kind method. number (between 1 mostCoefficients) λ count. doubles count λ coefficients. ruleLayout kind method (next kind coefficients count)
 
 unfoldable pub answerLayout : (Answer → Layout Record) → Layout Record
 answerLayout next = number isKind λ kind. doubles (numbersFor kind) λ numbers. next (answerOf kind numbers)
@@ -67,18 +72,31 @@ abbrev pub Filled : ℕ → List ℕ → ℕ → List Float → List Float → P
 Filled k s at before a (place.At p) = FilledTo k s at before a p
 Filled k s at before a place.Wrong = (next : List Float → Layout Record) → Fails (doubles k next) s at
 
-abbrev pub RuleTook : ℕ → List ℕ → ℕ → RuleRead → Type 0
-RuleTook m s at (rule-read.Is method eps limit p) = (next : Method → Float → ℕ → Layout Record) → Goes (ruleLayout m next) s at (next method eps limit) p
-RuleTook m s at rule-read.Wrong = (next : Method → Float → ℕ → Layout Record) → Fails (ruleLayout m next) s at
+-- the kind and the method's number
+pub record HeadTaken (s : List ℕ) (kind method p : ℕ) : Type 0 where
+  pub goes : (next : ℕ → ℕ → Layout Record) → Goes (headed next) s 0 (next kind method) p
+  pub known : method ≤ 5
 
-pub record CallTaken (s : List ℕ) (before a : List Float) (count : ℕ) (method : Method) (eps : Float) (limit p : ℕ) : Type 0 where
-  pub goes : (next : List Float → ℕ → Method → Float → ℕ → Layout Record) → Goes (callLayout next) s 0 (next (take count a) count method eps limit) p
+abbrev pub HeadTook : List ℕ → HeadRead → Type 0
+HeadTook s (head-read.Is kind method p) = HeadTaken s kind method p
+HeadTook s head-read.Wrong = (next : ℕ → ℕ → Layout Record) → Fails (headed next) s 0
+
+abbrev pub TolerancesTook : ℕ → List ℕ → ℕ → TolerancesRead → Type 0
+TolerancesTook kind s at (tolerances-read.Is tolerances p) = (next : Tolerances → Layout Record) → Goes (tolerancesFor kind next) s at (next tolerances) p
+TolerancesTook kind s at tolerances-read.Wrong = (next : Tolerances → Layout Record) → Fails (tolerancesFor kind next) s at
+
+abbrev pub RuleTook : ℕ → ℕ → List ℕ → ℕ → RuleRead → Type 0
+RuleTook kind m s at (rule-read.Is method tolerances limit p) = (next : Method → Tolerances → ℕ → Layout Record) → Goes (ruleLayout kind m next) s at (next method tolerances limit) p
+RuleTook kind m s at rule-read.Wrong = (next : Method → Tolerances → ℕ → Layout Record) → Fails (ruleLayout kind m next) s at
+
+pub record CallTaken (s : List ℕ) (before a : List Float) (kind count : ℕ) (method : Method) (tolerances : Tolerances) (limit p : ℕ) : Type 0 where
+  pub goes : (next : ℕ → List Float → ℕ → Method → Tolerances → ℕ → Layout Record) → Goes (callLayout next) s 0 (next kind (take count a) count method tolerances limit) p
   pub behind : drop count a ≡ drop count before
   pub few : count ≤ mostCoefficients
 
 abbrev pub CallTook : List ℕ → List Float → List Float → CallRead → Type 0
-CallTook s before a (call-read.Is count method eps limit p) = CallTaken s before a count method eps limit p
-CallTook s before a call-read.Wrong = (next : List Float → ℕ → Method → Float → ℕ → Layout Record) → Fails (callLayout next) s 0
+CallTook s before a (call-read.Is kind count method tolerances limit p) = CallTaken s before a kind count method tolerances limit p
+CallTook s before a call-read.Wrong = (next : ℕ → List Float → ℕ → Method → Tolerances → ℕ → Layout Record) → Fails (callLayout next) s 0
 
 abbrev pub AnswerTook : List ℕ → ℕ → AnswerRead → Type 0
 AnswerTook s at (answer-read.Is answer p) = (next : Answer → Layout Record) → Goes (answerLayout next) s at (next answer) p

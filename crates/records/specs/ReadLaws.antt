@@ -11,13 +11,13 @@ use lib.Seq.{take-suc-set, drop-set-lt}
 use lib.Ieee.{Float, binary64, ofBits, lt}
 use lib.Ieee.Scale.{finite}
 use borrow.Author.Tests.{lt-ltb, le-ltb}
-use Rattle.simple_convergency.specs.Stop.{leastEps, badEps}
+use Rattle.simple_convergency.specs.Stop.{leastTolerance, badTolerance}
 use Rattle.rows.specs.Groups.{Found, found, none, numberOf, TookOne, Took}
 use Rattle.rows.specs.Layouts.{Layout, number, only, TookNumber, NoNumber, Goes, Fails}
 use Rattle.rows.specs.LayoutLaws.{goes-here, goes-on, goes-wrong, number-wrong, number-goes}
 use Rattle.rows.specs.declared.Taken.{Taken}
 use Rattle.rows.specs.declared.Taken.the-variants as taken
-use Rattle.records.specs.Records.{between, isDouble, isEps, isKind, doubles}
+use Rattle.records.specs.Records.{between, isDouble, isTolerance, isKind, doubles}
 use Rattle.records.specs.Parts.{TookDouble, DoubleTook, FilledTo}
 use Rattle.records.specs.declared.Record.{Record}
 use Rattle.records.specs.declared.TakenDouble.{TakenDouble}
@@ -123,19 +123,19 @@ stricter ok again h (found n t) e = go (ok n) refl e
     go true f q = found-none q
     go false f q = rw (h n f)
 
--- ---- eps
+-- ---- a tolerance
 
-bad-if : (n : ℕ) → isDouble n ≡ false → isEps n ≡ false
-unfolding isDouble isEps badEps
+bad-if : (n : ℕ) → isDouble n ≡ false → isTolerance n ≡ false
+unfolding isDouble isTolerance badTolerance
 bad-if n e = rw e
 
-eps-test : (n : ℕ) {b : Bool} → isDouble n ≡ true → lt (ofBits binary64 n) leastEps ≡ b → isEps n ≡ not b
-unfolding isDouble isEps badEps
-eps-test n e f = rw (e, f)
+tolerance-test : (n : ℕ) {b : Bool} → isDouble n ≡ true → lt (ofBits binary64 n) leastTolerance ≡ b → isTolerance n ≡ not b
+unfolding isDouble isTolerance badTolerance
+tolerance-test n e f = rw (e, f)
 
 module _ (s : List ℕ) (at : ℕ) {r : TakenDouble} (g : DoubleTook isDouble s at r) where
-  pub eps-none : r ≡ taken-double.Wrong → NoNumber isEps s at
-  eps-none q = record { is = stricter isDouble isEps bad-if (numberOf (drop at s)) (no .is) }
+  pub tolerance-none : r ≡ taken-double.Wrong → NoNumber isTolerance s at
+  tolerance-none q = record { is = stricter isDouble isTolerance bad-if (numberOf (drop at s)) (no .is) }
     where
       no : NoNumber isDouble s at
       no = rw q at g
@@ -147,14 +147,14 @@ module _ (s : List ℕ) (at : ℕ) {r : TakenDouble} (g : DoubleTook isDouble s 
     behind : Behind isDouble (numberOf (drop at s)) (double .bits) (drop p s)
     behind = behind-test isDouble (numberOf (drop at s)) (double .took .is)
 
-    pub eps-low : lt x leastEps ≡ true → NoNumber isEps s at
-    eps-low h = record { is = ap (only isEps) (behind .is) ∙ rw (eps-test (double .bits) (behind .right) (ap (λ (y : Float). lt y leastEps) (sym (double .is)) ∙ h)) }
+    pub tolerance-low : lt x leastTolerance ≡ true → NoNumber isTolerance s at
+    tolerance-low h = record { is = ap (only isTolerance) (behind .is) ∙ rw (tolerance-test (double .bits) (behind .right) (ap (λ (y : Float). lt y leastTolerance) (sym (double .is)) ∙ h)) }
 
-    pub eps-is : lt x leastEps ≡ false → TookDouble isEps s at x p
-    eps-is h =
+    pub tolerance-is : lt x leastTolerance ≡ false → TookDouble isTolerance s at x p
+    tolerance-is h =
         record {
           bits = double .bits;
-          took = record { within = double .took .within; is = ap (only isEps) (behind .is) ∙ rw (eps-test (double .bits) (behind .right) (ap (λ (y : Float). lt y leastEps) (sym (double .is)) ∙ h)) };
+          took = record { within = double .took .within; is = ap (only isTolerance) (behind .is) ∙ rw (tolerance-test (double .bits) (behind .right) (ap (λ (y : Float). lt y leastTolerance) (sym (double .is)) ∙ h)) };
           is = double .is;
         }
 

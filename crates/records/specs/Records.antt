@@ -12,7 +12,8 @@ use Rattle.numerical.specs.declared.Answer.{Answer}
 use Rattle.numerical.specs.declared.Answer.the-variants.{ByValue, ByWidth, Refused}
 use Rattle.numerical.specs.declared.Outcome.{Outcome}
 use Rattle.numerical.specs.declared.Progress.{Progress}
-use Rattle.simple_convergency.specs.Stop.{badEps, greatestLimit, mostCoefficients}
+use Rattle.simple_convergency.specs.Stop.{badTolerance, tolerancesOf, oneEps, greatestLimit, mostCoefficients}
+use Rattle.simple_convergency.specs.declared.Tolerances.{Tolerances}
 use Rattle.roots.specs.Calls.{startsOf}
 use Rattle.roots.specs.Methods.{methodNumber, startCount, methodOf}
 use Rattle.roots.specs.declared.Method.{Method}
@@ -30,13 +31,21 @@ unfoldable pub bitsOf : List Float → List ℕ
 bitsOf [] = []
 bitsOf (x ∷ rest) = toBits binary64 x ∷ bitsOf rest
 
--- "starts, eps, limit"
-unfoldable pub ruleRow : Method → Float → ℕ → List ℕ
-ruleRow method eps limit = bitsOf (startsOf method) ++ (toBits binary64 eps ∷ limit ∷ [])
+-- kind 1 has no head; kind 2 "begins 0, 2"
+unfoldable pub headRow : ℕ → List ℕ
+headRow kind = cond (eqb kind 1) [] (0 ∷ kind ∷ [])
+
+-- in kind 1 one eps; in kind 2 "both tolerances follow the starts", the value tolerance first
+unfoldable pub tolerancesRow : ℕ → Tolerances → List ℕ
+tolerancesRow kind tolerances = cond (eqb kind 1) (toBits binary64 (tolerances .value) ∷ []) (toBits binary64 (tolerances .value) ∷ toBits binary64 (tolerances .point) ∷ [])
+
+-- the starts, the tolerances, the limit
+unfoldable pub ruleRow : ℕ → Method → Tolerances → ℕ → List ℕ
+ruleRow kind method tolerances limit = bitsOf (startsOf method) ++ (tolerancesRow kind tolerances ++ (limit ∷ []))
 
 -- "method 1 to 5 (as in W1 to W5), coefficient count, coefficients", and then these
 unfoldable pub callRow : Record → List ℕ
-callRow r = methodNumber (r .method) ∷ r .count ∷ (bitsOf (take (r .count) (r .coefficients)) ++ ruleRow (r .method) (r .eps) (r .limit))
+callRow r = headRow (r .kind) ++ (methodNumber (r .method) ∷ r .count ∷ (bitsOf (take (r .count) (r .coefficients)) ++ ruleRow (r .kind) (r .method) (r .tolerances) (r .limit)))
 
 -- "then the answer kind (0 by value, 1 by width, otherwise 10 plus the refusal), its numbers"
 unfoldable pub answerRow : Answer → List ℕ
@@ -59,8 +68,8 @@ unfoldable pub isDouble : ℕ → Bool
 isDouble n = finite (ofBits binary64 n)
 
 -- finite and at least 2^-300
-unfoldable pub isEps : ℕ → Bool
-isEps n = not (badEps (ofBits binary64 n))
+unfoldable pub isTolerance : ℕ → Bool
+isTolerance n = not (badTolerance (ofBits binary64 n))
 
 -- "a kind other than 0, 1 and 16 to 19" is none
 unfoldable pub isKind : ℕ → Bool
@@ -104,34 +113,63 @@ unfoldable pub doubles : {A : Type 0} → ℕ → (List Float → Layout A) → 
 doubles zero next = next []
 doubles (suc k) next = number isDouble (λ n. doubles k (λ rest. next (ofBits binary64 n ∷ rest)))
 
+-- behind a 0: the kind, and the method
+abbrev pub behindZero : {A : Type 0} → (ℕ → ℕ → Layout A) → Layout A
+behindZero next = number (between 2 2) λ kind. number (between 1 5) λ method. next kind method
+
+-- the kind and the method: a row of kind 1 begins with its method, one of kind 2 "begins 0, 2"
+unfoldable pub headed : {A : Type 0} → (ℕ → ℕ → Layout A) → Layout A
+headed next = number (between 0 5) λ first. cond (eqb first 0) (behindZero next) (next 1 first)
+
+-- behind the value tolerance: the point tolerance
+abbrev pub withPoint : {A : Type 0} → (Tolerances → Layout A) → ℕ → Layout A
+withPoint next value = number isTolerance λ point. next (tolerancesOf (ofBits binary64 value) (ofBits binary64 point))
+
+-- the tolerances of a kind: kind 1 has one, and "An old record reads as both equal"
+unfoldable pub tolerancesFor : {A : Type 0} → ℕ → (Tolerances → Layout A) → Layout A
+tolerancesFor kind next = number isTolerance λ value. cond (eqb kind 1) (next (oneEps (ofBits binary64 value))) (withPoint next value)
+
 -- number by number, each with what it may be, and at the end what they hold together
 unfoldable pub recordLayout : Layout Record
 recordLayout =
-    number (between 1 5) λ method.
+    headed λ kind method.
     number (between 1 mostCoefficients) λ count.
     doubles count λ coefficients.
     doubles (startCount method) λ starts.
-    number isEps λ eps.
+    tolerancesFor kind λ tolerances.
     number (between 0 greatestLimit) λ limit.
-    number isKind λ kind.
-    doubles (numbersFor kind) λ numbers.
+    number isKind λ answer.
+    doubles (numbersFor answer) λ numbers.
     number isTally λ steps.
     number isTally λ values.
     number isTally λ derivatives.
     number (between 0 2) λ mark.
     end (record {
+      kind = kind;
       coefficients = padded coefficients;
       count = count;
       method = startedAt method starts;
-      eps = ofBits binary64 eps;
+      tolerances = tolerances;
       limit = limit;
-      outcome = record { answer = answerOf kind numbers; progress = progressOf steps values derivatives mark };
+      outcome = record { answer = answerOf answer numbers; progress = progressOf steps values derivatives mark };
     })
 
 -- ---- writing
 
+-- kind 1 has room for one tolerance, so both must be of the same bits
+unfoldable pub holdsBoth : ℕ → Tolerances → Bool
+holdsBoth kind tolerances = cond (eqb kind 1) (eqb (toBits binary64 (tolerances .value)) (toBits binary64 (tolerances .point))) true
+
 abbrev pub recordable : Record → Bool
-recordable r = fits recordLayout (rowOf r)
+recordable r = cond (holdsBoth (r .kind) (r .tolerances)) (fits recordLayout (rowOf r)) false
+
+-- no record has more bytes: BackLaws `at-most-longest`
+abbrev pub longestRecord : ℕ
+longestRecord = 268
+
+-- "Records get kind 2, written from now on"
+abbrev pub newest : ℕ
+newest = 2
 
 abbrev pub bytesOf : Record → List ℕ
 bytesOf r = spell (rowOf r)
@@ -149,7 +187,7 @@ leftBy r before (verdict.Refused refusal) = before
 
 -- what stands beside a refusal
 abbrev pub blank : Record
-blank = record { coefficients = noughts; count = 0; method = Brent nought nought; eps = nought; limit = 0; outcome = refusedAtOnce 0 }
+blank = record { kind = 0; coefficients = noughts; count = 0; method = Brent nought nought; tolerances = oneEps nought; limit = 0; outcome = refusedAtOnce 0 }
 
 abbrev pub noRecord : Reading
 noRecord = record { verdict = verdict.Refused 11; content = blank }

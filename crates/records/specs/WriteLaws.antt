@@ -15,6 +15,7 @@ use Rattle.numerical.specs.declared.Answer.{Answer}
 use Rattle.numerical.specs.declared.Answer.the-variants.{ByValue, ByWidth, Refused}
 use Rattle.numerical.specs.declared.Progress.{Progress}
 use Rattle.simple_convergency.specs.Stop.{mostCoefficients}
+use Rattle.simple_convergency.specs.declared.Tolerances.{Tolerances}
 use Rattle.roots.specs.Calls.{startsOf}
 use Rattle.roots.specs.Methods.{methodNumber}
 use Rattle.roots.specs.declared.Method.{Method}
@@ -23,7 +24,7 @@ use Rattle.rows.specs.Layouts.{spell, fits, Read, held, wrong, read}
 use Rattle.rows.specs.LayoutLaws.{wrong-held, row-only, right-if, wrong-if-none, wrong-if-short}
 use Rattle.rows.specs.Puts.{Put, PutRow}
 use Rattle.rows.specs.PutLaws.{put-nothing, put-one, put-both, put-length, put-front, row-nothing, row-both}
-use Rattle.records.specs.Records.{bitsOf, ruleRow, callRow, answerRow, progressRow, rowOf, recordLayout, bytesOf, writtenTo, leftBy, told, readingOf}
+use Rattle.records.specs.Records.{bitsOf, headRow, tolerancesRow, ruleRow, callRow, answerRow, progressRow, rowOf, recordLayout, holdsBoth, recordable, bytesOf, writtenTo, leftBy, told, readingOf}
 use Rattle.records.specs.Parts.{isAll, wholeOf}
 use Rattle.records.specs.declared.Record.{Record}
 use Rattle.records.specs.declared.Reading.{Reading}
@@ -87,6 +88,18 @@ module _ (a : List ℕ) (at : ℕ) {b : List ℕ} {p : ℕ} where
   unfolding bitsOf
   start-put m e f y = rw (e, ← f) y
 
+  pub old-head-put : (kind : ℕ) (m : Method) {n : ℕ} → kind ≡ 1 → n ≡ methodNumber m → PutRow a at (n ∷ []) b p → PutRow a at (headRow kind ++ (methodNumber m ∷ [])) b p
+  unfolding headRow
+  old-head-put kind m e f y = rw (eq-eqb kind 1 e, ← f) y
+
+  pub one-put : (kind : ℕ) (t : Tolerances) {n : ℕ} → kind ≡ 1 → n ≡ toBits binary64 (t .value) → PutRow a at (n ∷ []) b p → PutRow a at (tolerancesRow kind t) b p
+  unfolding tolerancesRow
+  one-put kind t e f y = rw (eq-eqb kind 1 e, ← f) y
+
+  pub two-put : (kind : ℕ) (t : Tolerances) → (kind ≡ 1 → ⊥) → PutRow a at (bitsOf (t .value ∷ t .point ∷ [])) b p → PutRow a at (tolerancesRow kind t) b p
+  unfolding tolerancesRow bitsOf
+  two-put kind t z y = rw (ne-eqb kind 1 z) y
+
   pub refused-put : (o : Answer) {n : ℕ} → o ≡ Refused n → PutRow a at ((10 + n) ∷ []) b p → PutRow a at (answerRow o) b p
   unfolding answerRow bitsOf
   refused-put o e f = rw e f
@@ -101,13 +114,25 @@ module _ (a : List ℕ) (at : ℕ) {b : List ℕ} {p : ℕ} where
     width-put o e f g = rw e (row-both f g)
 
     module _ {d : List ℕ} {r : ℕ} where
-      pub rule-put : (m : Method) (eps : Float) (limit : ℕ) {n : ℕ} → PutRow a at (bitsOf (startsOf m)) b p → n ≡ toBits binary64 eps → PutRow b p (n ∷ []) c q → PutRow c q (limit ∷ []) d r → PutRow a at (ruleRow m eps limit) d r
+      pub rule-put :
+          (kind : ℕ) (m : Method) (t : Tolerances) (limit : ℕ) → PutRow a at (bitsOf (startsOf m)) b p → PutRow b p (tolerancesRow kind t) c q → PutRow c q (limit ∷ []) d r →
+          PutRow a at (ruleRow kind m t limit) d r
       unfolding ruleRow
-      rule-put m eps limit x e y z = rw (← e) (row-both x (row-both y z))
+      rule-put kind m t limit x y z = row-both x (row-both y z)
 
-      pub call-put : (k : Record) {n : ℕ} {e : List ℕ} {u : ℕ} → n ≡ methodNumber (k .method) → PutRow a at (n ∷ []) b p → PutRow b p (k .count ∷ []) c q → PutRow c q (bitsOf (take (k .count) (k .coefficients))) d r → PutRow d r (ruleRow (k .method) (k .eps) (k .limit)) e u → PutRow a at (callRow k) e u
+      pub new-head-put :
+          (kind : ℕ) (m : Method) {n : ℕ} → (kind ≡ 1 → ⊥) → n ≡ methodNumber m → PutRow a at (0 ∷ []) b p → PutRow b p (kind ∷ []) c q → PutRow c q (n ∷ []) d r →
+          PutRow a at (headRow kind ++ (methodNumber m ∷ [])) d r
+      unfolding headRow
+      new-head-put kind m z f x y w = rw (ne-eqb kind 1 z, ← f) (row-both x (row-both y w))
+
+      pub call-put :
+          (k : Record) {e : List ℕ} {u : ℕ} → PutRow a at (headRow (k .kind) ++ (methodNumber (k .method) ∷ [])) b p → PutRow b p (k .count ∷ []) c q →
+          PutRow c q (bitsOf (take (k .count) (k .coefficients))) d r → PutRow d r (ruleRow (k .kind) (k .method) (k .tolerances) (k .limit)) e u → PutRow a at (callRow k) e u
       unfolding callRow
-      call-put k h x y z w = rw (← h) (row-both x (row-both y (row-both z w)))
+      call-put k {e} {u} x y z w =
+          rw (append-assoc (headRow (k .kind)) (methodNumber (k .method) ∷ []) (k .count ∷ (bitsOf (take (k .count) (k .coefficients)) ++ ruleRow (k .kind) (k .method) (k .tolerances) (k .limit)))) at
+          (row-both x (row-both y (row-both z w)))
 
       pub progress-put : (g : Progress) {e : List ℕ} {u : ℕ} → PutRow a at (g .tally .steps .0 ∷ []) b p → PutRow b p (g .tally .values .0 ∷ []) c q → PutRow c q (g .tally .derivatives .0 ∷ []) d r → PutRow d r (g .mark ∷ []) e u → PutRow a at (progressRow g) e u
       unfolding progressRow
@@ -143,6 +168,11 @@ module _ {before t now : List ℕ} {i : ℕ} (g : Copying before t now i) where
       same = let c = g .count in omega arith
 
 -- ---- a record written, or refused
+
+-- kind 1 has room for both tolerances where their bits are the same
+pub same-bits : (kind : ℕ) (t : Tolerances) {i j : ℕ} → kind ≡ 1 → i ≡ toBits binary64 (t .value) → j ≡ toBits binary64 (t .point) → eqb i j ≡ holdsBoth kind t
+unfolding holdsBoth
+same-bits kind t e f g = rw (eq-eqb kind 1 e, ← f, ← g)
 
 module _ {row aside line : List ℕ} {n : ℕ} (x : PutRow aside 0 row line n) where
   spelled : take n line ≡ spell row
@@ -209,33 +239,41 @@ module _ (o : Record) (before : List ℕ) where
   both : {v w : Verdict} {now : List ℕ} → w ≡ v → v ≡ writtenTo o (length before) → now ≡ leftBy o before v → (w ≡ writtenTo o (length before)) × (now ≡ leftBy o before (writtenTo o (length before)))
   both e f g = (e ∙ f, g ∙ ap (leftBy o before) f)
 
-  pub eleven : fits recordLayout (rowOf o) ≡ false → verdict.Refused 11 ≡ writtenTo o (length before)
+  pub eleven : recordable o ≡ false → verdict.Refused 11 ≡ writtenTo o (length before)
   unfolding writtenTo
   eleven e = rw e
 
-  pub ten : fits recordLayout (rowOf o) ≡ true → length before < length (bytesOf o) → verdict.Refused 10 ≡ writtenTo o (length before)
+  pub ten : recordable o ≡ true → length before < length (bytesOf o) → verdict.Refused 10 ≡ writtenTo o (length before)
   unfolding writtenTo
   ten e h = rw (e, lt-ltb (length before) (length (bytesOf o)) h)
 
-  pub enough : fits recordLayout (rowOf o) ≡ true → length (bytesOf o) ≤ length before → verdict.Bytes (length (bytesOf o)) ≡ writtenTo o (length before)
+  pub enough : recordable o ≡ true → length (bytesOf o) ≤ length before → verdict.Bytes (length (bytesOf o)) ≡ writtenTo o (length before)
   unfolding writtenTo
   enough e h = rw (e, le-ltb (length before) (length (bytesOf o)) h)
 
-module _ (before : List ℕ) (o : Record) {aside line : List ℕ} {n : ℕ} (x : PutRow aside 0 (rowOf o) line n) {b : Bool} (y : b ≡ wholeOf (take n line)) where
+  -- two tolerances that the kind has no room for
+  pub no-room-for-both : {b : Bool} → b ≡ holdsBoth (o .kind) (o .tolerances) → b ≡ false → (verdict.Refused 11 ≡ writtenTo o (length before)) × (before ≡ leftBy o before (writtenTo o (length before)))
+  no-room-for-both y e = both refl (eleven (rw (sym y ∙ e))) refl
+
+module _ (before : List ℕ) (o : Record) {h : Bool} (k : h ≡ holdsBoth (o .kind) (o .tolerances)) (j : h ≡ true) {aside line : List ℕ} {n : ℕ} (x : PutRow aside 0 (rowOf o) line n) {b : Bool} (y : b ≡ wholeOf (take n line)) where
   on-row : b ≡ isAll (read recordLayout (spell (rowOf o)))
   unfolding wholeOf
   on-row = y ∙ ap (λ (s : List ℕ). isAll (read recordLayout s)) (spelled x)
 
+  -- where both have room, the row decides
+  by-row : recordable o ≡ fits recordLayout (rowOf o)
+  by-row = rw (sym k ∙ j)
+
   pub not-whole : b ≡ false → (verdict.Refused 11 ≡ writtenTo o (length before)) × (before ≡ leftBy o before (writtenTo o (length before)))
-  not-whole e = both o before refl (eleven o before (go (not-all (read recordLayout (spell (rowOf o))) (sym on-row ∙ e)))) refl
+  not-whole e = both o before refl (eleven o before (by-row ∙ go (not-all (read recordLayout (spell (rowOf o))) (sym on-row ∙ e)))) refl
     where
       go : (read recordLayout (spell (rowOf o)) ≡ wrong) ⊎ ((c : Record) × (t : List ℕ) × (read recordLayout (spell (rowOf o)) ≡ held c t) × (t ≡ [] → ⊥)) → fits recordLayout (rowOf o) ≡ false
       go (inl f) = wrong-if-none recordLayout (rowOf o) f
       go (inr f) = wrong-if-short recordLayout (rowOf o) (f .0) (f .1) (f .2) (f .3)
 
   module _ (e : b ≡ true) where
-    right : fits recordLayout (rowOf o) ≡ true
-    right = let f = all-held (read recordLayout (spell (rowOf o))) (sym on-row ∙ e) in right-if recordLayout (rowOf o) (f .0) (x .small) (f .1)
+    right : recordable o ≡ true
+    right = let f = all-held (read recordLayout (spell (rowOf o))) (sym on-row ∙ e) in by-row ∙ right-if recordLayout (rowOf o) (f .0) (x .small) (f .1)
 
     pub no-room : length before < n → (verdict.Refused 10 ≡ writtenTo o (length before)) × (before ≡ leftBy o before (writtenTo o (length before)))
     no-room h = both o before refl (ten o before right (rw (← (as-long x)) h)) refl

@@ -9,23 +9,35 @@ use numerical::Values;
 use roots::Method;
 use rows::Taken;
 use simple_convergency::StopRule;
+use simple_convergency::Tolerances;
 ghost use Prim.Native.Nat.{_*_, _+_, _≤_};
-ghost use Rattle.records.specs.Parts.{AnswerTook, CallTook, DoubleTook, Filled, ProgressTook, RuleTook, TookIf, wholeOf};
-ghost use Rattle.records.specs.Records.{answerRow, between, bitsOf, blank, callRow, isDouble, isEps, isKind, leftBy, noRecord, numbersFor, progressRow, readingOf, rowOf, ruleRow, writtenTo};
+ghost use Rattle.records.specs.Parts.{AnswerTook, CallTook, DoubleTook, Filled, HeadTook, ProgressTook, RuleTook, TolerancesTook, TookIf, wholeOf};
+ghost use Rattle.records.specs.Records.{answerRow, between, bitsOf, blank, callRow, headRow, holdsBoth, isDouble, isKind, isTolerance, leftBy, noRecord, numbersFor, progressRow, readingOf, rowOf, ruleRow, tolerancesRow, writtenTo};
 ghost use Rattle.roots.specs.Calls.{startsOf};
+ghost use Rattle.roots.specs.Methods.{methodNumber};
 ghost use Rattle.rows.specs.Puts.{PutRow};
 ghost use lib.ListN.{drop, length, take};
 ghost use mathlib.Core.List.{[], _++_, _∷_};
 ghost use mathlib.Core.Path.{_≡_};
 
-// What a record holds: a call with its own copy of the coefficients, of which the first `count` are its own, and its answer.
+// What a record holds: its kind, which says how it is laid out, a call with its own copy of the coefficients, of which the
+// first `count` are its own, and its answer.
 pub struct Record {
+    pub kind: u64,
     pub coefficients: [f64; 16],
     pub count: usize,
     pub method: Method,
-    pub eps: f64,
+    pub tolerances: Tolerances,
     pub limit: u64,
     pub outcome: Outcome,
+}
+
+impl Record {
+    // The kind that is written from now on.
+    pub const NEWEST: u64 = 2;
+
+    // No record has more bytes.
+    pub const LONGEST: usize = 268;
 }
 
 // How many bytes a record takes, or the number of a refusal.
@@ -52,10 +64,20 @@ enum Place {
     Wrong,
 }
 
+enum HeadRead {
+    Is { kind: u64, method: u64, next: usize },
+    Wrong,
+}
+
+enum TolerancesRead {
+    Is { tolerances: Tolerances, next: usize },
+    Wrong,
+}
+
 enum RuleRead {
     Is {
         method: Method,
-        eps: f64,
+        tolerances: Tolerances,
         limit: u64,
         next: usize,
     },
@@ -64,9 +86,10 @@ enum RuleRead {
 
 enum CallRead {
     Is {
+        kind: u64,
         count: usize,
         method: Method,
-        eps: f64,
+        tolerances: Tolerances,
         limit: u64,
         next: usize,
     },
@@ -134,13 +157,13 @@ fn take_double(s: &[u8], at: usize) -> TakenDouble
 }
 
 // A double that refusal 4 lets pass.
-fn take_eps(s: &[u8], at: usize) -> TakenDouble
-    ensures { λ r. ⌜ DoubleTook isEps (now (s .entry)) at r ⌝ }
+fn take_tolerance(s: &[u8], at: usize) -> TakenDouble
+    ensures { λ r. ⌜ DoubleTook isTolerance (now (s .entry)) at r ⌝ }
 {
     let TakenDouble::Is { x, next } = take_double(s, at) else {
         return TakenDouble::Wrong;
     };
-    if x < StopRule::LEAST_EPS {
+    if x < StopRule::LEAST_TOLERANCE {
         TakenDouble::Wrong
     } else {
         TakenDouble::Is { x, next }
@@ -165,17 +188,66 @@ fn take_doubles(s: &[u8], at: usize, k: usize, a: &mut [f64]) -> Place
     Place::At(p)
 }
 
-// The starts of method m, eps and the limit.
-fn read_rule(s: &[u8], at: usize, m: u8) -> RuleRead
+// The kind, and the number of the method. A record of kind 1 begins with its method, one of kind 2 with 0 and 2.
+fn read_head(s: &[u8]) -> HeadRead
+    ensures { λ r. ⌜ HeadTook (now (s .entry)) r ⌝ }
+{
+    let Taken::Is { n: first, next: p } = take_within(s, 0, 0, 5) else {
+        return HeadRead::Wrong;
+    };
+    if first != 0 {
+        return HeadRead::Is {
+            kind: 1,
+            method: first,
+            next: p,
+        };
+    }
+    let Taken::Is { n: kind, next: q } = take_within(s, p, 2, 2) else {
+        return HeadRead::Wrong;
+    };
+    let Taken::Is { n: method, next } = take_within(s, q, 1, 5) else {
+        return HeadRead::Wrong;
+    };
+    HeadRead::Is { kind, method, next }
+}
+
+// The tolerances: kind 1 has one eps for both, kind 2 that of values and then that of points.
+fn read_tolerances(s: &[u8], at: usize, kind: u64) -> TolerancesRead
+    ensures { λ r. ⌜ TolerancesTook kind (now (s .entry)) at r ⌝ }
+{
+    let TakenDouble::Is { x: value, next: p } = take_tolerance(s, at) else {
+        return TolerancesRead::Wrong;
+    };
+    if kind == 1 {
+        return TolerancesRead::Is {
+            tolerances: Tolerances::both(value),
+            next: p,
+        };
+    }
+    let TakenDouble::Is { x: point, next } = take_tolerance(s, p) else {
+        return TolerancesRead::Wrong;
+    };
+    TolerancesRead::Is {
+        tolerances: Tolerances { value, point },
+        next,
+    }
+}
+
+// The starts of method m, the tolerances and the limit.
+fn read_rule(s: &[u8], at: usize, kind: u64, m: u8) -> RuleRead
     requires { ⌜ at ≤ length (now s) ⌝ }
-    ensures { λ r. ⌜ RuleTook m (now (s .entry)) at r ⌝ }
+    ensures { λ r. ⌜ RuleTook kind m (now (s .entry)) at r ⌝ }
 {
     let mut starts = [0.0f64; 2];
     let k = Method::start_count(m);
     let Place::At(p) = take_doubles(s, at, k, &mut starts) else {
         return RuleRead::Wrong;
     };
-    let TakenDouble::Is { x: eps, next: q } = take_eps(s, p) else {
+    let TolerancesRead::Is {
+        tolerances,
+        next: q,
+    } = read_tolerances(s, p, kind)
+    else {
         return RuleRead::Wrong;
     };
     let Taken::Is { n: limit, next } = take_within(s, q, 0, StopRule::GREATEST_LIMIT) else {
@@ -184,7 +256,7 @@ fn read_rule(s: &[u8], at: usize, m: u8) -> RuleRead
     let method = Method::numbered(m, starts[0], starts[1]);
     RuleRead::Is {
         method,
-        eps,
+        tolerances,
         limit,
         next,
     }
@@ -195,7 +267,12 @@ fn read_call(s: &[u8], a: &mut [f64]) -> CallRead
     requires { ⌜ 16 ≤ length (now a) ⌝ }
     ensures { λ r. ⌜ CallTook (now (s .entry)) (now (a .entry)) (now (a .exit)) r ⌝ }
 {
-    let Taken::Is { n: m, next: p } = take_within(s, 0, 1, 5) else {
+    let HeadRead::Is {
+        kind,
+        method: m,
+        next: p,
+    } = read_head(s)
+    else {
         return CallRead::Wrong;
     };
     let Taken::Is { n: k, next: q } = take_within(s, p, 1, 16) else {
@@ -207,17 +284,18 @@ fn read_call(s: &[u8], a: &mut [f64]) -> CallRead
     };
     let RuleRead::Is {
         method,
-        eps,
+        tolerances,
         limit,
         next,
-    } = read_rule(s, t, m as u8)
+    } = read_rule(s, t, kind, m as u8)
     else {
         return CallRead::Wrong;
     };
     CallRead::Is {
+        kind,
         count,
         method,
-        eps,
+        tolerances,
         limit,
         next,
     }
@@ -309,10 +387,11 @@ fn blank() -> Record
     ensures { λ r. ⌜ r ≡ blank ⌝ }
 {
     Record {
+        kind: 0,
         coefficients: [0.0; 16],
         count: 0,
         method: Method::Brent { from: 0.0, to: 0.0 },
-        eps: 0.0,
+        tolerances: Tolerances::both(0.0),
         limit: 0,
         outcome: Outcome::refused_at_once(0),
     }
@@ -333,9 +412,10 @@ pub fn read(s: &[u8]) -> Reading
 {
     let mut coefficients = [0.0f64; 16];
     let CallRead::Is {
+        kind,
         count,
         method,
-        eps,
+        tolerances,
         limit,
         next: p,
     } = read_call(s, &mut coefficients)
@@ -352,10 +432,11 @@ pub fn read(s: &[u8]) -> Reading
     Reading {
         verdict: Verdict::Bytes(next),
         content: Record {
+            kind,
             coefficients,
             count,
             method,
-            eps,
+            tolerances,
             limit,
             outcome,
         },
@@ -388,7 +469,7 @@ fn put_doubles(a: &[f64], k: usize, out: &mut [u8], at: usize) -> usize
     p
 }
 
-// Two starts, or a root and its value.
+// Two starts, a root and its value, or the two tolerances.
 fn put_two(first: f64, second: f64, out: &mut [u8], at: usize) -> usize
     requires { ⌜ at + 20 ≤ length (now out) ⌝ }
     ensures { λ r. ⌜ PutRow (now (out .entry)) at (bitsOf (first ∷ second ∷ [])) (now (out .exit)) r ⌝ }
@@ -425,30 +506,66 @@ fn put_coefficients(a: [f64; 16], count: usize, out: &mut [u8], at: usize) -> us
     put_doubles(&a, count, out, at)
 }
 
-// The starts, eps and the limit.
-fn put_rule(method: Method, eps: f64, limit: u64, out: &mut [u8], at: usize) -> usize
-    requires { ⌜ at + 40 ≤ length (now out) ⌝ }
-    ensures { λ r. ⌜ PutRow (now (out .entry)) at (ruleRow method eps limit) (now (out .exit)) r ⌝ }
-    ensures { λ r. ⌜ r ≤ at + 40 ⌝ }
+// The kind, and the method's number. Kind 1 begins with the method, another with 0 and the kind.
+fn put_head(kind: u64, method: Method, out: &mut [u8]) -> usize
+    requires { ⌜ 30 ≤ length (now out) ⌝ }
+    ensures { λ r. ⌜ PutRow (now (out .entry)) 0 (headRow kind ++ (methodNumber method ∷ [])) (now (out .exit)) r ⌝ }
+    ensures { λ r. ⌜ r ≤ 30 ⌝ }
+{
+    let number = method.number() as u64;
+    if kind == 1 {
+        return put_number(number, out, 0);
+    }
+    let p = put_number(0, out, 0);
+    let q = put_number(kind, out, p);
+    put_number(number, out, q)
+}
+
+// Kind 1 has one tolerance; another has that of values and then that of points.
+fn put_tolerances(kind: u64, tolerances: Tolerances, out: &mut [u8], at: usize) -> usize
+    requires { ⌜ at + 20 ≤ length (now out) ⌝ }
+    ensures { λ r. ⌜ PutRow (now (out .entry)) at (tolerancesRow kind tolerances) (now (out .exit)) r ⌝ }
+    ensures { λ r. ⌜ r ≤ at + 20 ⌝ }
+{
+    if kind == 1 {
+        return put_number(doubles::pattern(tolerances.value), out, at);
+    }
+    put_two(tolerances.value, tolerances.point, out, at)
+}
+
+// The starts, the tolerances and the limit.
+fn put_rule(
+    kind: u64,
+    method: Method,
+    tolerances: Tolerances,
+    limit: u64,
+    out: &mut [u8],
+    at: usize,
+) -> usize
+    requires { ⌜ at + 50 ≤ length (now out) ⌝ }
+    ensures { λ r. ⌜ PutRow (now (out .entry)) at (ruleRow kind method tolerances limit) (now (out .exit)) r ⌝ }
+    ensures { λ r. ⌜ r ≤ at + 50 ⌝ }
 {
     let p = put_starts(method, out, at);
-    let q = put_number(doubles::pattern(eps), out, p);
+    let q = put_tolerances(kind, tolerances, out, p);
     put_number(limit, out, q)
 }
 
-// The method's number, the coefficients with their count, and the rest of the call.
+// The head, the coefficients with their count, and the rest of the call.
 fn put_call(content: Record, out: &mut [u8]) -> usize
-    requires { ⌜ 220 ≤ length (now out) ⌝ }
+    requires { ⌜ 250 ≤ length (now out) ⌝ }
     ensures { λ r. ⌜ PutRow (now (out .entry)) 0 (callRow content) (now (out .exit)) r ⌝ }
-    ensures { λ r. ⌜ r ≤ 220 ⌝ }
+    ensures { λ r. ⌜ r ≤ 250 ⌝ }
 {
+    let kind = content.kind;
     let method = content.method;
     let coefficients = content.coefficients;
     let count = content.count;
-    let p = put_number(method.number() as u64, out, 0);
+    let tolerances = content.tolerances;
+    let p = put_head(kind, method, out);
     let q = put_number(count as u64, out, p);
     let t = put_coefficients(coefficients, count, out, q);
-    put_rule(method, content.eps, content.limit, out, t)
+    put_rule(kind, method, tolerances, content.limit, out, t)
 }
 
 // The kind of an answer and its numbers.
@@ -485,11 +602,11 @@ fn put_progress(progress: Progress, out: &mut [u8], at: usize) -> usize
     put_number(mark as u64, out, t)
 }
 
-// The whole row, right or not: at most 30 numbers of ten bytes.
+// The whole row, right or not: at most 33 numbers of ten bytes.
 fn put_record(content: Record, out: &mut [u8]) -> usize
-    requires { ⌜ 300 ≤ length (now out) ⌝ }
+    requires { ⌜ 330 ≤ length (now out) ⌝ }
     ensures { λ r. ⌜ PutRow (now (out .entry)) 0 (rowOf content) (now (out .exit)) r ⌝ }
-    ensures { λ r. ⌜ r ≤ 300 ⌝ }
+    ensures { λ r. ⌜ r ≤ 330 ⌝ }
 {
     let outcome = content.outcome;
     let answer = outcome.answer;
@@ -523,13 +640,28 @@ fn is_whole(s: &[u8]) -> bool
     n == s.len()
 }
 
+// Whether a record of the kind has room for both tolerances: in kind 1 they must be of the same bits.
+fn holds_both(kind: u64, tolerances: Tolerances) -> bool
+    ensures { λ r. ⌜ r ≡ holdsBoth kind tolerances ⌝ }
+{
+    if kind == 1 {
+        doubles::pattern(tolerances.value) == doubles::pattern(tolerances.point)
+    } else {
+        true
+    }
+}
+
 // Writes a record to the start of the buffer. Its row is made aside first, and is a record exactly if it reads back whole:
 // so nothing is written before 11 and then 10 are ruled out.
 pub fn write(content: Record, out: &mut [u8]) -> Verdict
     ensures verdict { λ r. ⌜ r ≡ writtenTo content (length (now (out .entry))) ⌝ }
     ensures bytes { λ r. ⌜ now (out .exit) ≡ leftBy content (now (out .entry)) (writtenTo content (length (now (out .entry)))) ⌝ }
 {
-    let mut aside = [0u8; 300];
+    let tolerances = content.tolerances;
+    if !holds_both(content.kind, tolerances) {
+        return Verdict::Refused(11);
+    }
+    let mut aside = [0u8; 330];
     let n = put_record(content, &mut aside);
     let whole = is_whole(&aside[..n]);
     if !whole {

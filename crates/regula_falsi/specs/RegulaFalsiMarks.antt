@@ -13,7 +13,7 @@ use Rattle.doubles.specs.Sizes.{atLeast, product-tells}
 use Rattle.numerical.specs.Tallies.{markAfter}
 use Rattle.numerical.specs.declared.Answer.{Answer}
 use Rattle.numerical.specs.declared.Sample.{Sample}
-use Rattle.simple_convergency.specs.Stop.{leastPower, greatestLimit, badEps, turnsOf}
+use Rattle.simple_convergency.specs.Stop.{leastPower, greatestLimit, badTolerance, turnsOf}
 use Rattle.simple_convergency.specs.StopLaws.{not-found-size}
 use Rattle.simple_convergency.specs.declared.StopRule.{StopRule}
 use Rattle.searching.specs.Programs.{rising, differ, productDeparts, oracle, Event, Prog, Turned}
@@ -43,7 +43,7 @@ after-signs : (b : Bool) (m : ℕ) → b ≡ false → ZeroOrTwo m → ZeroOrTwo
 unfolding markAfter
 after-signs b m e z = rw e z
 
-module _ (a : List Float) (stop : StopRule) (good : badEps (stop .eps) ≡ false) (small : stop .limit ≤ greatestLimit) where
+module _ (a : List Float) (stop : StopRule) (good : badTolerance (stop .tolerances .value) ≡ false) (small : stop .limit ≤ greatestLimit) where
   -- a state with n steps left, and the mark of its history
   abbrev Marked : ℕ → Illinois → List Event → Type 0
   Marked n s h = Heavy stop n s × ZeroOrTwo (markIn h)

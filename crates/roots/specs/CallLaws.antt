@@ -14,6 +14,7 @@ use Rattle.numerical.specs.declared.Outcome.{Outcome}
 use Rattle.simple_convergency.specs.Stop.{greatestLimit, checkedOf}
 use Rattle.simple_convergency.specs.StopLaws.{Passed, passed}
 use Rattle.simple_convergency.specs.declared.StopRule.{StopRule}
+use Rattle.simple_convergency.specs.declared.Tolerances.{Tolerances}
 use Rattle.simple_convergency.specs.declared.Checked.{Checked}
 use Rattle.simple_convergency.specs.declared.Checked.the-variants.{Rule, Refused}
 use Rattle.roots.specs.Calls.{badCount, allFinite, startsOf, foundBy, foundUnder, answer}
@@ -67,37 +68,37 @@ by-method a stop m e k = rw e k
 
 -- ---- 1 to 5 in their order: each answer with the tests that were made before it
 
-module _ (a : List Float) (m : Method) (eps : Float) (limit : ℕ) {r : Outcome} {bad : Bool} (e : bad ≡ badCount (length a)) where
-  pub count-refused : bad ≡ true → r ≡ refusedAtOnce 1 → r ≡ answer a m eps limit
+module _ (a : List Float) (m : Method) (tolerances : Tolerances) (limit : ℕ) {r : Outcome} {bad : Bool} (e : bad ≡ badCount (length a)) where
+  pub count-refused : bad ≡ true → r ≡ refusedAtOnce 1 → r ≡ answer a m tolerances limit
   unfolding answer
   count-refused t k = rw (← e, t) k
 
   module _ (t : bad ≡ false) {all : Bool} (f : all ≡ allFinite a) where
-    pub coefficient-refused : all ≡ false → r ≡ refusedAtOnce 2 → r ≡ answer a m eps limit
+    pub coefficient-refused : all ≡ false → r ≡ refusedAtOnce 2 → r ≡ answer a m tolerances limit
     unfolding answer
     coefficient-refused u k = rw (← e, t, ← f, u) k
 
     module _ (u : all ≡ true) {starts : Bool} (g : starts ≡ allFinite (startsOf m)) where
-      pub start-refused : starts ≡ false → r ≡ refusedAtOnce 3 → r ≡ answer a m eps limit
+      pub start-refused : starts ≡ false → r ≡ refusedAtOnce 3 → r ≡ answer a m tolerances limit
       unfolding answer
       start-refused v k = rw (← e, t, ← f, u, ← g, v) k
 
-      module _ (v : starts ≡ true) {c : Checked} (h : c ≡ checkedOf eps limit) where
-        under : r ≡ foundUnder a m c → r ≡ answer a m eps limit
+      module _ (v : starts ≡ true) {c : Checked} (h : c ≡ checkedOf tolerances limit) where
+        under : r ≡ foundUnder a m c → r ≡ answer a m tolerances limit
         unfolding answer
         under k = rw (← e, t, ← f, u, ← g, v, ← h) k
 
-        pub by-rule : {stop : StopRule} → c ≡ Rule stop → r ≡ foundBy a stop m → r ≡ answer a m eps limit
+        pub by-rule : {stop : StopRule} → c ≡ Rule stop → r ≡ foundBy a stop m → r ≡ answer a m tolerances limit
         by-rule q k = under (k ∙ ap (foundUnder a m) (sym q))
 
-        pub by-refusal : {n : ℕ} → c ≡ Refused n → r ≡ refusedAtOnce n → r ≡ answer a m eps limit
+        pub by-refusal : {n : ℕ} → c ≡ Refused n → r ≡ refusedAtOnce n → r ≡ answer a m tolerances limit
         by-refusal q k = under (k ∙ ap (foundUnder a m) (sym q))
 
 -- ---- what a rule that was checked keeps to
 
-module _ (eps : Float) (limit : ℕ) {c : Checked} {stop : StopRule} (e : c ≡ checkedOf eps limit) (k : c ≡ Rule stop) where
-  rule : Passed eps limit stop
-  rule = passed eps limit stop (sym e ∙ k)
+module _ (tolerances : Tolerances) (limit : ℕ) {c : Checked} {stop : StopRule} (e : c ≡ checkedOf tolerances limit) (k : c ≡ Rule stop) where
+  rule : Passed tolerances limit stop
+  rule = passed tolerances limit stop (sym e ∙ k)
 
   pub limit-kept : stop .limit ≤ greatestLimit
   limit-kept = rw (rule .same-limit) (rule .in-range)

@@ -10,6 +10,7 @@ use Rattle.numerical.specs.Answers.{refusedAtOnce}
 use Rattle.numerical.specs.declared.Outcome.{Outcome}
 use Rattle.simple_convergency.specs.Stop.{mostCoefficients, checkedOf}
 use Rattle.simple_convergency.specs.declared.StopRule.{StopRule}
+use Rattle.simple_convergency.specs.declared.Tolerances.{Tolerances}
 use Rattle.simple_convergency.specs.declared.Checked.{Checked}
 use Rattle.simple_convergency.specs.declared.Checked.the-variants.{Rule, Refused}
 use Rattle.brent.specs.Brent.{brent}
@@ -43,17 +44,17 @@ foundBy a stop (Secant first second) = secant a stop first second
 foundBy a stop (NewtonRaphson start) = newtonRaphson a stop start
 foundBy a stop (Polynom from to) = polynomSearch a stop from to
 
--- 4: "eps isn't finite or is below 2^-300"; 5: "limit is above 400"
+-- 4: a tolerance "isn't finite or is below 2^-300"; 5: "limit is above 400"
 abbrev pub foundUnder : List Float → Method → Checked → Outcome
 foundUnder a m (Rule stop) = foundBy a stop m
 foundUnder a m (Refused n) = refusedAtOnce n
 
 -- "1 to 5 are checked in that order, before any evaluation"
-unfoldable pub answer : List Float → Method → Float → ℕ → Outcome
-answer a m eps limit =
+unfoldable pub answer : List Float → Method → Tolerances → ℕ → Outcome
+answer a m tolerances limit =
     cond (badCount (length a)) (refusedAtOnce 1)
     (cond (allFinite a)
     (cond (allFinite (startsOf m))
-    (foundUnder a m (checkedOf eps limit))
+    (foundUnder a m (checkedOf tolerances limit))
     (refusedAtOnce 3))
     (refusedAtOnce 2))

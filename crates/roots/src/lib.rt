@@ -2,10 +2,11 @@
 use numerical::Outcome;
 use simple_convergency::Checked;
 use simple_convergency::StopRule;
+use simple_convergency::Tolerances;
 ghost use mathlib.Core.Path.{_≡_};
 ghost use mathlib.Core.List.{[], _∷_};
 ghost use Prim.Native.Nat.{_≤_};
-ghost use Rattle.simple_convergency.specs.Stop.{greatestLimit, plainLimit};
+ghost use Rattle.simple_convergency.specs.Stop.{greatestLimit, oneEps, plainLimit};
 ghost use Rattle.roots.specs.Calls.{badCount, allFinite, startsOf, foundBy, answer};
 ghost use Rattle.roots.specs.Methods.{methodNumber, startCount, methodOf};
 
@@ -128,8 +129,8 @@ fn found_by(a: &[f64], stop: StopRule, method: Method) -> Outcome
 }
 
 // A search: refusals 1 to 5 in that order, before any evaluation, and then the method.
-pub fn search(a: &[f64], method: Method, eps: f64, limit: u64) -> Outcome
-    ensures { λ r. ⌜ r ≡ answer (now (a .entry)) method eps limit ⌝ }
+pub fn search(a: &[f64], method: Method, tolerances: Tolerances, limit: u64) -> Outcome
+    ensures { λ r. ⌜ r ≡ answer (now (a .entry)) method tolerances limit ⌝ }
 {
     if is_bad_count(a.len()) {
         return Outcome::refused_at_once(1);
@@ -140,47 +141,56 @@ pub fn search(a: &[f64], method: Method, eps: f64, limit: u64) -> Outcome
     if !starts_finite(method) {
         return Outcome::refused_at_once(3);
     }
-    let checked = StopRule::checked(eps, limit);
+    let checked = StopRule::checked(tolerances, limit);
     match checked {
         Checked::Rule(stop) => found_by(a, stop, method),
         Checked::Refused(number) => Outcome::refused_at_once(number),
     }
 }
 
+// ---- for who comes from the Rust: one eps for both tolerances
+
+// A search with one eps, as the Rust's SimpleConvergency has it.
+pub fn search_simple(a: &[f64], method: Method, eps: f64, limit: u64) -> Outcome
+    ensures { λ r. ⌜ r ≡ answer (now (a .entry)) method (oneEps eps) limit ⌝ }
+{
+    search(a, method, Tolerances::both(eps), limit)
+}
+
 // A search with the limit that a plain eps has in the Rust.
 pub fn search_plain(a: &[f64], method: Method, eps: f64) -> Outcome
-    ensures { λ r. ⌜ r ≡ answer (now (a .entry)) method eps plainLimit ⌝ }
+    ensures { λ r. ⌜ r ≡ answer (now (a .entry)) method (oneEps eps) plainLimit ⌝ }
 {
-    search(a, method, eps, StopRule::PLAIN_LIMIT)
+    search_simple(a, method, eps, StopRule::PLAIN_LIMIT)
 }
 
 pub fn find_root_brent(from: f64, to: f64, a: &[f64], eps: f64, limit: u64) -> Outcome
-    ensures { λ r. ⌜ r ≡ answer (now (a .entry)) (Method.Brent from to) eps limit ⌝ }
+    ensures { λ r. ⌜ r ≡ answer (now (a .entry)) (Method.Brent from to) (oneEps eps) limit ⌝ }
 {
-    search(a, Method::Brent { from, to }, eps, limit)
+    search_simple(a, Method::Brent { from, to }, eps, limit)
 }
 
 pub fn find_root_regula_falsi(from: f64, to: f64, a: &[f64], eps: f64, limit: u64) -> Outcome
-    ensures { λ r. ⌜ r ≡ answer (now (a .entry)) (Method.RegulaFalsi from to) eps limit ⌝ }
+    ensures { λ r. ⌜ r ≡ answer (now (a .entry)) (Method.RegulaFalsi from to) (oneEps eps) limit ⌝ }
 {
-    search(a, Method::RegulaFalsi { from, to }, eps, limit)
+    search_simple(a, Method::RegulaFalsi { from, to }, eps, limit)
 }
 
 pub fn find_root_secant(first: f64, second: f64, a: &[f64], eps: f64, limit: u64) -> Outcome
-    ensures { λ r. ⌜ r ≡ answer (now (a .entry)) (Method.Secant first second) eps limit ⌝ }
+    ensures { λ r. ⌜ r ≡ answer (now (a .entry)) (Method.Secant first second) (oneEps eps) limit ⌝ }
 {
-    search(a, Method::Secant { first, second }, eps, limit)
+    search_simple(a, Method::Secant { first, second }, eps, limit)
 }
 
 pub fn find_root_newton_raphson(start: f64, a: &[f64], eps: f64, limit: u64) -> Outcome
-    ensures { λ r. ⌜ r ≡ answer (now (a .entry)) (Method.NewtonRaphson start) eps limit ⌝ }
+    ensures { λ r. ⌜ r ≡ answer (now (a .entry)) (Method.NewtonRaphson start) (oneEps eps) limit ⌝ }
 {
-    search(a, Method::NewtonRaphson { start }, eps, limit)
+    search_simple(a, Method::NewtonRaphson { start }, eps, limit)
 }
 
 // The polynomial search, which the Rust keeps private as find_root of polynom.rs.
 pub fn find_root_polynom(from: f64, to: f64, a: &[f64], eps: f64, limit: u64) -> Outcome
-    ensures { λ r. ⌜ r ≡ answer (now (a .entry)) (Method.Polynom from to) eps limit ⌝ }
+    ensures { λ r. ⌜ r ≡ answer (now (a .entry)) (Method.Polynom from to) (oneEps eps) limit ⌝ }
 {
-    search(a, Method::Polynom { from, to }, eps, limit)
+    search_simple(a, Method::Polynom { from, to }, eps, limit)
 }

@@ -9,6 +9,8 @@ use Rattle.doubles.specs.Doubles.{nought}
 use Rattle.numerical.specs.Answers.{kindOf, numbersOf, refusedAtOnce}
 use Rattle.numerical.specs.declared.Outcome.{Outcome}
 use Rattle.numerical.specs.declared.Progress.{Progress}
+use Rattle.simple_convergency.specs.Stop.{tolerancesOf}
+use Rattle.simple_convergency.specs.declared.Tolerances.{Tolerances}
 use Rattle.roots.specs.Calls.{answer}
 use Rattle.roots.specs.declared.Method.the-variants.{Brent, RegulaFalsi, Secant, NewtonRaphson, Polynom}
 use Rattle.roots_c.specs.declared.Chosen.{Chosen}
@@ -24,9 +26,9 @@ chosenBy n first second =
     (cond (eqb n 5) (Known (Polynom first second)) Unknown))))
 
 -- an unknown method is refused with 0, which is no refusal's number, before anything else is looked at
-abbrev pub outcomeOf : List Float → Chosen → Float → ℕ → Outcome
-outcomeOf a (Known method) eps limit = answer a method eps limit
-outcomeOf a Unknown eps limit = refusedAtOnce 0
+abbrev pub outcomeOf : List Float → Chosen → Tolerances → ℕ → Outcome
+outcomeOf a (Known method) tolerances limit = answer a method tolerances limit
+outcomeOf a Unknown tolerances limit = refusedAtOnce 0
 
 -- an answer's numbers, and +0.0 up to three
 abbrev pub padded : List Float → List Float
@@ -38,9 +40,9 @@ countsOf p = p .tally .steps .0 ∷ p .tally .values .0 ∷ p .tally .derivative
 
 -- ---- what the call gives back, and what it leaves in its two buffers
 
-module _ (a : List Float) (method : ℕ) (first second eps : Float) (limit : ℕ) where
+module _ (a : List Float) (method : ℕ) (first second value point : Float) (limit : ℕ) where
   abbrev pub flatOutcome : Outcome
-  flatOutcome = outcomeOf a (chosenBy method first second) eps limit
+  flatOutcome = outcomeOf a (chosenBy method first second) (tolerancesOf value point) limit
 
   abbrev pub flatKind : ℕ
   flatKind = kindOf (flatOutcome .answer)
@@ -53,4 +55,4 @@ module _ (a : List Float) (method : ℕ) (first second eps : Float) (limit : ℕ
 
 -- the version of the interface that C sees
 abbrev pub version : ℕ
-version = 2
+version = 3

@@ -14,6 +14,8 @@ use Rattle.numerical.specs.declared.Answer.{Answer}
 use Rattle.numerical.specs.declared.Answer.the-variants.{ByValue, ByWidth, Refused}
 use Rattle.numerical.specs.declared.Outcome.{Outcome}
 use Rattle.numerical.specs.declared.Progress.{Progress}
+use Rattle.simple_convergency.specs.Stop.{tolerancesOf}
+use Rattle.simple_convergency.specs.declared.Tolerances.{Tolerances}
 use Rattle.roots.specs.Methods.{methodNumber}
 use Rattle.roots.specs.declared.Method.{Method}
 use Rattle.records.specs.Records.{between, noughts, padded, progressOf, writtenTo, leftBy, readingOf}
@@ -98,13 +100,13 @@ by-verdict v e k = rw e k
 pub by-bytes : {r : ℕ} (v : Verdict) {w : Verdict} → v ≡ w → r ≡ bytesIn w → r ≡ bytesIn v
 by-bytes v e k = rw e k
 
-pub by-points : {r : List Float} (m : Method) (eps : Float) {n : Method} → m ≡ n → r ≡ pointsOf n eps → r ≡ pointsOf m eps
-by-points m eps e k = rw e k
+pub by-points : {r : List Float} (m : Method) (t : Tolerances) {n : Method} → m ≡ n → r ≡ pointsOf n t → r ≡ pointsOf m t
+by-points m t e k = rw e k
 
-pub no-words : {r : List ℕ} (v : Verdict) (content : Record) {n : ℕ} → v ≡ verdict.Refused n → r ≡ 0 ∷ 0 ∷ 0 ∷ 0 ∷ 0 ∷ [] → r ≡ wordsOf v content
+pub no-words : {r : List ℕ} (v : Verdict) (content : Record) {n : ℕ} → v ≡ verdict.Refused n → r ≡ 0 ∷ 0 ∷ 0 ∷ 0 ∷ 0 ∷ 0 ∷ [] → r ≡ wordsOf v content
 no-words v content e k = rw e k
 
-pub some-words : (v : Verdict) (content : Record) {n m k : ℕ} → v ≡ verdict.Bytes n → m ≡ methodNumber (content .method) → k ≡ kindOf (content .outcome .answer) → n ∷ m ∷ content .count ∷ content .limit ∷ k ∷ [] ≡ wordsOf v content
+pub some-words : (v : Verdict) (content : Record) {n m k : ℕ} → v ≡ verdict.Bytes n → m ≡ methodNumber (content .method) → k ≡ kindOf (content .outcome .answer) → n ∷ m ∷ content .count ∷ content .limit ∷ k ∷ content .kind ∷ [] ≡ wordsOf v content
 some-words v content e f g = rw (e, f, g)
 
 pub progress-is : (steps values derivatives mark : ℕ) {m : ℕ} → m ≡ markFrom mark → progressOf steps values derivatives m ≡ progressOf steps values derivatives (markFrom mark)
@@ -115,37 +117,37 @@ outcome-is kind numbers tallies e f = rw (e, f)
 
 -- ---- the call that writes
 
-module _ (a : List Float) (eps : Float) (limit : ℕ) (o : Outcome) (before : List ℕ) (c : Chosen) where
-  pub unknown-writes : c ≡ Unknown → (verdict.Refused 11 ≡ verdictFor a eps limit o before c) × (before ≡ leftFor a eps limit o before c)
+module _ (recordKind : ℕ) (a : List Float) (t : Tolerances) (limit : ℕ) (o : Outcome) (before : List ℕ) (c : Chosen) where
+  pub unknown-writes : c ≡ Unknown → (verdict.Refused 11 ≡ verdictFor recordKind a t limit o before c) × (before ≡ leftFor recordKind a t limit o before c)
   unknown-writes e = (rw e refl, rw e refl)
 
   pub known-writes :
       {m : Method} {own : List Float} {v : Verdict} {now : List ℕ} → own ≡ padded (take 16 a) →
-      (v ≡ writtenTo (record { coefficients = own; count = length a; method = m; eps = eps; limit = limit; outcome = o }) (length before))
-      × (now ≡ leftBy (record { coefficients = own; count = length a; method = m; eps = eps; limit = limit; outcome = o }) before (writtenTo (record { coefficients = own; count = length a; method = m; eps = eps; limit = limit; outcome = o }) (length before))) →
-      c ≡ Known m → (v ≡ verdictFor a eps limit o before c) × (now ≡ leftFor a eps limit o before c)
+      (v ≡ writtenTo (record { kind = recordKind; coefficients = own; count = length a; method = m; tolerances = t; limit = limit; outcome = o }) (length before))
+      × (now ≡ leftBy (record { kind = recordKind; coefficients = own; count = length a; method = m; tolerances = t; limit = limit; outcome = o }) before (writtenTo (record { kind = recordKind; coefficients = own; count = length a; method = m; tolerances = t; limit = limit; outcome = o }) (length before))) →
+      c ≡ Known m → (v ≡ verdictFor recordKind a t limit o before c) × (now ≡ leftFor recordKind a t limit o before c)
   known-writes {m} {own} {v} {now} f w e = (w .0 ∙ go .0, w .1 ∙ go .1)
     where
       held : Record
-      held = record { coefficients = own; count = length a; method = m; eps = eps; limit = limit; outcome = o }
+      held = record { kind = recordKind; coefficients = own; count = length a; method = m; tolerances = t; limit = limit; outcome = o }
 
-      same : held ≡ recordFrom a m eps limit o
-      same = λ i. record { coefficients = f i; count = length a; method = m; eps = eps; limit = limit; outcome = o }
+      same : held ≡ recordFrom recordKind a m t limit o
+      same = λ i. record { kind = recordKind; coefficients = f i; count = length a; method = m; tolerances = t; limit = limit; outcome = o }
 
-      go : (writtenTo held (length before) ≡ verdictFor a eps limit o before c) × (leftBy held before (writtenTo held (length before)) ≡ leftFor a eps limit o before c)
+      go : (writtenTo held (length before) ≡ verdictFor recordKind a t limit o before c) × (leftBy held before (writtenTo held (length before)) ≡ leftFor recordKind a t limit o before c)
       go = (rw (e, ← same) refl, rw (e, ← same) refl)
 
-module _ (a : List Float) (method : ℕ) (first second eps : Float) (limit kind : ℕ) (numbers : List Float) (tallies before : List ℕ) {c : Chosen} {o : Outcome} (m : c ≡ chosenBy method first second) (e : o ≡ outcomeFrom kind numbers tallies) where
-  same-verdict : verdictFor a eps limit o before c ≡ flatVerdict a method first second eps limit kind numbers tallies before
+module _ (recordKind : ℕ) (a : List Float) (method : ℕ) (first second value point : Float) (limit kind : ℕ) (numbers : List Float) (tallies before : List ℕ) {c : Chosen} {o : Outcome} (m : c ≡ chosenBy method first second) (e : o ≡ outcomeFrom kind numbers tallies) where
+  same-verdict : verdictFor recordKind a (tolerancesOf value point) limit o before c ≡ flatVerdict recordKind a method first second value point limit kind numbers tallies before
   same-verdict = rw (m, e) refl
 
-  pub the-refusal : {v : Verdict} {r : ℕ} → v ≡ verdictFor a eps limit o before c → r ≡ refusalOf v → r ≡ refusalOf (flatVerdict a method first second eps limit kind numbers tallies before)
+  pub the-refusal : {v : Verdict} {r : ℕ} → v ≡ verdictFor recordKind a (tolerancesOf value point) limit o before c → r ≡ refusalOf v → r ≡ refusalOf (flatVerdict recordKind a method first second value point limit kind numbers tallies before)
   the-refusal w k = k ∙ ap refusalOf (w ∙ same-verdict)
 
-  pub the-length : {v : Verdict} {r : ℕ} → v ≡ verdictFor a eps limit o before c → r ≡ bytesIn v → r ≡ bytesIn (flatVerdict a method first second eps limit kind numbers tallies before)
+  pub the-length : {v : Verdict} {r : ℕ} → v ≡ verdictFor recordKind a (tolerancesOf value point) limit o before c → r ≡ bytesIn v → r ≡ bytesIn (flatVerdict recordKind a method first second value point limit kind numbers tallies before)
   the-length w k = k ∙ ap bytesIn (w ∙ same-verdict)
 
-  pub the-bytes : {now : List ℕ} → now ≡ leftFor a eps limit o before c → now ≡ flatBytes a method first second eps limit kind numbers tallies before
+  pub the-bytes : {now : List ℕ} → now ≡ leftFor recordKind a (tolerancesOf value point) limit o before c → now ≡ flatBytes recordKind a method first second value point limit kind numbers tallies before
   the-bytes k = k ∙ rw (m, e) refl
 
 -- ---- the call that reads
@@ -157,8 +159,8 @@ module _ (bytes : List ℕ) {b : Reading} (e : b ≡ readingOf bytes) where
   pub the-read-coefficients : b .content .coefficients ≡ readCoefficients bytes
   the-read-coefficients = ap (λ (x : Reading). x .content .coefficients) e
 
-  pub the-read-points : {l : List Float} → l ≡ pointsOf (b .content .method) (b .content .eps) → l ≡ readPoints bytes
-  the-read-points k = k ∙ ap (λ (x : Reading). pointsOf (x .content .method) (x .content .eps)) e
+  pub the-read-points : {l : List Float} → l ≡ pointsOf (b .content .method) (b .content .tolerances) → l ≡ readPoints bytes
+  the-read-points k = k ∙ ap (λ (x : Reading). pointsOf (x .content .method) (x .content .tolerances)) e
 
   pub the-read-numbers : {l : List Float} → l ≡ flat.padded (numbersOf (b .content .outcome .answer)) → l ≡ readNumbers bytes
   the-read-numbers k = k ∙ ap (λ (x : Reading). flat.padded (numbersOf (x .content .outcome .answer))) e

@@ -10,7 +10,8 @@ use Rattle.numerical.specs.Answers.{kindOf, numbersOf}
 use Rattle.numerical.specs.declared.Answer.{Answer}
 use Rattle.numerical.specs.declared.Answer.the-variants.{ByValue, ByWidth, Refused}
 use Rattle.numerical.specs.declared.Outcome.{Outcome}
-use Rattle.simple_convergency.specs.Stop.{mostCoefficients}
+use Rattle.simple_convergency.specs.Stop.{mostCoefficients, tolerancesOf}
+use Rattle.simple_convergency.specs.declared.Tolerances.{Tolerances}
 use Rattle.roots.specs.Calls.{startsOf}
 use Rattle.roots.specs.Methods.{methodNumber}
 use Rattle.roots.specs.declared.Method.{Method}
@@ -46,8 +47,8 @@ outcomeFrom kind numbers tallies =
     }
 
 -- a record's own copy of the coefficients: at most 16 of those lent, with their count
-abbrev pub recordFrom : List Float → Method → Float → ℕ → Outcome → Record
-recordFrom a method eps limit outcome = record { coefficients = padded (take mostCoefficients a); count = length a; method = method; eps = eps; limit = limit; outcome = outcome }
+abbrev pub recordFrom : ℕ → List Float → Method → Tolerances → ℕ → Outcome → Record
+recordFrom recordKind a method tolerances limit outcome = record { kind = recordKind; coefficients = padded (take mostCoefficients a); count = length a; method = method; tolerances = tolerances; limit = limit; outcome = outcome }
 
 -- 0, or the refusal's number
 abbrev pub refusalOf : Verdict → ℕ
@@ -60,37 +61,37 @@ bytesIn (verdict.Bytes n) = n
 bytesIn (verdict.Refused n) = 0
 
 -- an unknown method has no record
-module _ (a : List Float) (eps : Float) (limit : ℕ) (outcome : Outcome) (before : List ℕ) where
+module _ (recordKind : ℕ) (a : List Float) (tolerances : Tolerances) (limit : ℕ) (outcome : Outcome) (before : List ℕ) where
   abbrev pub verdictFor : Chosen → Verdict
-  verdictFor (Known method) = writtenTo (recordFrom a method eps limit outcome) (length before)
+  verdictFor (Known method) = writtenTo (recordFrom recordKind a method tolerances limit outcome) (length before)
   verdictFor Unknown = verdict.Refused 11
 
   abbrev pub leftFor : Chosen → List ℕ
-  leftFor (Known method) = leftBy (recordFrom a method eps limit outcome) before (writtenTo (recordFrom a method eps limit outcome) (length before))
+  leftFor (Known method) = leftBy (recordFrom recordKind a method tolerances limit outcome) before (writtenTo (recordFrom recordKind a method tolerances limit outcome) (length before))
   leftFor Unknown = before
 
 -- the call that C makes: what it says, and what it leaves in the buffer
-module _ (a : List Float) (method : ℕ) (first second eps : Float) (limit kind : ℕ) (numbers : List Float) (tallies before : List ℕ) where
+module _ (recordKind : ℕ) (a : List Float) (method : ℕ) (first second value point : Float) (limit kind : ℕ) (numbers : List Float) (tallies before : List ℕ) where
   abbrev pub flatVerdict : Verdict
-  flatVerdict = verdictFor a eps limit (outcomeFrom kind numbers tallies) before (chosenBy method first second)
+  flatVerdict = verdictFor recordKind a (tolerancesOf value point) limit (outcomeFrom kind numbers tallies) before (chosenBy method first second)
 
   abbrev pub flatBytes : List ℕ
-  flatBytes = leftFor a eps limit (outcomeFrom kind numbers tallies) before (chosenBy method first second)
+  flatBytes = leftFor recordKind a (tolerancesOf value point) limit (outcomeFrom kind numbers tallies) before (chosenBy method first second)
 
 -- ---- what was read
 
--- the starts, the second of them +0.0 where the method has one, and eps
-abbrev pub pointsOf : Method → Float → List Float
-pointsOf (Brent from to) eps = from ∷ to ∷ eps ∷ []
-pointsOf (RegulaFalsi from to) eps = from ∷ to ∷ eps ∷ []
-pointsOf (Secant first second) eps = first ∷ second ∷ eps ∷ []
-pointsOf (NewtonRaphson start) eps = start ∷ nought ∷ eps ∷ []
-pointsOf (Polynom from to) eps = from ∷ to ∷ eps ∷ []
+-- the starts, the second of them +0.0 where the method has one, the value tolerance and the point tolerance
+abbrev pub pointsOf : Method → Tolerances → List Float
+pointsOf (Brent from to) t = from ∷ to ∷ t .value ∷ t .point ∷ []
+pointsOf (RegulaFalsi from to) t = from ∷ to ∷ t .value ∷ t .point ∷ []
+pointsOf (Secant first second) t = first ∷ second ∷ t .value ∷ t .point ∷ []
+pointsOf (NewtonRaphson start) t = start ∷ nought ∷ t .value ∷ t .point ∷ []
+pointsOf (Polynom from to) t = from ∷ to ∷ t .value ∷ t .point ∷ []
 
--- length, method, count, limit, kind; all zero beside a refusal
+-- length, method, count, limit, the answer's kind, the record's kind; all zero beside a refusal
 abbrev pub wordsOf : Verdict → Record → List ℕ
-wordsOf (verdict.Bytes n) r = n ∷ methodNumber (r .method) ∷ r .count ∷ r .limit ∷ kindOf (r .outcome .answer) ∷ []
-wordsOf (verdict.Refused n) r = 0 ∷ 0 ∷ 0 ∷ 0 ∷ 0 ∷ []
+wordsOf (verdict.Bytes n) r = n ∷ methodNumber (r .method) ∷ r .count ∷ r .limit ∷ kindOf (r .outcome .answer) ∷ r .kind ∷ []
+wordsOf (verdict.Refused n) r = 0 ∷ 0 ∷ 0 ∷ 0 ∷ 0 ∷ 0 ∷ []
 
 module _ (bytes : List ℕ) where
   abbrev pub readRefusal : ℕ
@@ -100,7 +101,7 @@ module _ (bytes : List ℕ) where
   readCoefficients = readingOf bytes .content .coefficients
 
   abbrev pub readPoints : List Float
-  readPoints = pointsOf (readingOf bytes .content .method) (readingOf bytes .content .eps)
+  readPoints = pointsOf (readingOf bytes .content .method) (readingOf bytes .content .tolerances)
 
   abbrev pub readNumbers : List Float
   readNumbers = flat.padded (numbersOf (readingOf bytes .content .outcome .answer))

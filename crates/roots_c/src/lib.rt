@@ -9,12 +9,14 @@ use numerical::Values;
 use records::Record;
 use records::Verdict;
 use roots::Method;
+use simple_convergency::Tolerances;
 ghost use Prim.Native.Nat.{_≤_};
 ghost use lib.ListN.{length, take};
 ghost use mathlib.Core.Path.{_≡_};
 ghost use Rattle.numerical.specs.Answers.{kindOf, numbersOf};
 ghost use Rattle.records.specs.Records.{progressOf, readingOf};
 ghost use Rattle.records.specs.Records as held;
+ghost use Rattle.simple_convergency.specs.Stop.{tolerancesOf};
 ghost use Rattle.roots_c.specs.Flat.{chosenBy, outcomeOf, padded, countsOf, flatKind, flatNumbers, flatTallies, version};
 ghost use Rattle.roots_c.specs.FlatRecords.{answerFrom, bytesIn, flatBytes, flatVerdict, leftFor, markFrom, pointsOf, readCoefficients, readNumbers, readPoints, readRefusal, readTallies, readWords, refusalOf, verdictFor, wordsOf};
 
@@ -55,11 +57,11 @@ fn chosen_by(number: u64, first: f64, second: f64) -> Chosen
 }
 
 // The search's outcome, or for an unknown method a refusal of no number.
-fn outcome_of(a: &[f64], chosen: Chosen, eps: f64, limit: u64) -> Outcome
-    ensures { λ r. ⌜ r ≡ outcomeOf (now (a .entry)) chosen eps limit ⌝ }
+fn outcome_of(a: &[f64], chosen: Chosen, tolerances: Tolerances, limit: u64) -> Outcome
+    ensures { λ r. ⌜ r ≡ outcomeOf (now (a .entry)) chosen tolerances limit ⌝ }
 {
     match chosen {
-        Chosen::Known(method) => roots::search(a, method, eps, limit),
+        Chosen::Known(method) => roots::search(a, method, tolerances, limit),
         Chosen::Unknown => Outcome::refused_at_once(0),
     }
 }
@@ -96,23 +98,26 @@ fn counts_of(progress: Progress) -> [u64; 4]
     [t.steps.0, t.values.0, t.derivatives.0, mark]
 }
 
-// A search by the method's number. The kind is 0 by value, 1 by width, else 10 plus the refusal's number.
+// A search by the method's number; value and point are the tolerances. The kind is 0 by value, 1 by width, else 10 plus the
+// refusal's number.
 #[no_mangle]
 pub extern "C" fn roots_search(
     coefficients: &[f64],
     method: u64,
     first: f64,
     second: f64,
-    eps: f64,
+    value: f64,
+    point: f64,
     limit: u64,
     numbers: &mut [f64; 3],
     tallies: &mut [u64; 4],
 ) -> u64
-    ensures kind { λ r. ⌜ r ≡ flatKind (now (coefficients .entry)) method first second eps limit ⌝ }
-    ensures numbers { λ _. ⌜ now (numbers .exit) ≡ flatNumbers (now (coefficients .entry)) method first second eps limit ⌝ }
-    ensures tallies { λ _. ⌜ now (tallies .exit) ≡ flatTallies (now (coefficients .entry)) method first second eps limit ⌝ }
+    ensures kind { λ r. ⌜ r ≡ flatKind (now (coefficients .entry)) method first second value point limit ⌝ }
+    ensures numbers { λ _. ⌜ now (numbers .exit) ≡ flatNumbers (now (coefficients .entry)) method first second value point limit ⌝ }
+    ensures tallies { λ _. ⌜ now (tallies .exit) ≡ flatTallies (now (coefficients .entry)) method first second value point limit ⌝ }
 {
-    let outcome = outcome_of(coefficients, chosen_by(method, first, second), eps, limit);
+    let chosen = chosen_by(method, first, second);
+    let outcome = outcome_of(coefficients, chosen, Tolerances { value, point }, limit);
     let answer = outcome.answer;
     let progress = outcome.progress;
     *numbers = numbers_of(answer);
@@ -125,7 +130,7 @@ pub extern "C" fn roots_search(
 pub extern "C" fn roots_version() -> u64
     ensures { λ r. ⌜ r ≡ version ⌝ }
 {
-    2
+    3
 }
 
 // ---- records
@@ -210,23 +215,25 @@ fn bytes_in(verdict: Verdict) -> u64
 
 // Writes the record, unless the method is unknown.
 fn write_chosen(
+    record_kind: u64,
     chosen: Chosen,
     a: &[f64],
-    eps: f64,
+    tolerances: Tolerances,
     limit: u64,
     outcome: Outcome,
     bytes: &mut [u8],
 ) -> Verdict
-    ensures verdict { λ r. ⌜ r ≡ verdictFor (now (a .entry)) eps limit outcome (now (bytes .entry)) chosen ⌝ }
-    ensures bytes { λ _. ⌜ now (bytes .exit) ≡ leftFor (now (a .entry)) eps limit outcome (now (bytes .entry)) chosen ⌝ }
+    ensures verdict { λ r. ⌜ r ≡ verdictFor «record_kind» (now (a .entry)) tolerances limit outcome (now (bytes .entry)) chosen ⌝ }
+    ensures bytes { λ _. ⌜ now (bytes .exit) ≡ leftFor «record_kind» (now (a .entry)) tolerances limit outcome (now (bytes .entry)) chosen ⌝ }
 {
     match chosen {
         Chosen::Known(method) => {
             let content = Record {
+                kind: record_kind,
                 coefficients: copied(a),
                 count: a.len(),
                 method,
-                eps,
+                tolerances,
                 limit,
                 outcome,
             };
@@ -236,14 +243,17 @@ fn write_chosen(
     }
 }
 
-// Writes the record of a call and its answer, as roots_search took and gave them. It returns 0, 10 or 11.
+// Writes the record of a call and its answer, as roots_search took and gave them, as a record of a kind. It returns 0, 10
+// or 11.
 #[no_mangle]
 pub extern "C" fn roots_record_write(
+    record_kind: u64,
     coefficients: &[f64],
     method: u64,
     first: f64,
     second: f64,
-    eps: f64,
+    value: f64,
+    point: f64,
     limit: u64,
     kind: u64,
     numbers: &[f64; 3],
@@ -251,33 +261,45 @@ pub extern "C" fn roots_record_write(
     bytes: &mut [u8],
     length: &mut u64,
 ) -> u64
-    ensures refusal { λ r. ⌜ r ≡ refusalOf (flatVerdict (now (coefficients .entry)) method first second eps limit kind (now (numbers .entry)) (now (tallies .entry)) (now (bytes .entry))) ⌝ }
-    ensures bytes { λ _. ⌜ now (bytes .exit) ≡ flatBytes (now (coefficients .entry)) method first second eps limit kind (now (numbers .entry)) (now (tallies .entry)) (now (bytes .entry)) ⌝ }
-    ensures length { λ _. ⌜ now (length .exit) ≡ bytesIn (flatVerdict (now (coefficients .entry)) method first second eps limit kind (now (numbers .entry)) (now (tallies .entry)) (now (bytes .entry))) ⌝ }
+    ensures refusal { λ r. ⌜ r ≡ refusalOf (flatVerdict «record_kind» (now (coefficients .entry)) method first second value point limit kind (now (numbers .entry)) (now (tallies .entry)) (now (bytes .entry))) ⌝ }
+    ensures bytes { λ _. ⌜ now (bytes .exit) ≡ flatBytes «record_kind» (now (coefficients .entry)) method first second value point limit kind (now (numbers .entry)) (now (tallies .entry)) (now (bytes .entry)) ⌝ }
+    ensures length { λ _. ⌜ now (length .exit) ≡ bytesIn (flatVerdict «record_kind» (now (coefficients .entry)) method first second value point limit kind (now (numbers .entry)) (now (tallies .entry)) (now (bytes .entry))) ⌝ }
 {
     let answer = answer_from(kind, numbers[0], numbers[1], numbers[2]);
     let progress = progress_from(tallies[0], tallies[1], tallies[2], tallies[3]);
     let outcome = Outcome { answer, progress };
     let chosen = chosen_by(method, first, second);
-    let verdict = write_chosen(chosen, coefficients, eps, limit, outcome, bytes);
+    let tolerances = Tolerances { value, point };
+    let verdict = write_chosen(
+        record_kind,
+        chosen,
+        coefficients,
+        tolerances,
+        limit,
+        outcome,
+        bytes,
+    );
     *length = bytes_in(verdict);
     refusal_of(verdict)
 }
 
-fn points_of(method: Method, eps: f64) -> [f64; 3]
-    ensures { λ r. ⌜ r ≡ pointsOf method eps ⌝ }
+// The starts, the second of them zero where the method has one, and the tolerances.
+fn points_of(method: Method, tolerances: Tolerances) -> [f64; 4]
+    ensures { λ r. ⌜ r ≡ pointsOf method tolerances ⌝ }
 {
+    let value = tolerances.value;
+    let point = tolerances.point;
     match method {
-        Method::Brent { from, to } => [from, to, eps],
-        Method::RegulaFalsi { from, to } => [from, to, eps],
-        Method::Secant { first, second } => [first, second, eps],
-        Method::NewtonRaphson { start } => [start, 0.0, eps],
-        Method::Polynom { from, to } => [from, to, eps],
+        Method::Brent { from, to } => [from, to, value, point],
+        Method::RegulaFalsi { from, to } => [from, to, value, point],
+        Method::Secant { first, second } => [first, second, value, point],
+        Method::NewtonRaphson { start } => [start, 0.0, value, point],
+        Method::Polynom { from, to } => [from, to, value, point],
     }
 }
 
-// The length, the method, the count, the limit and the kind.
-fn words_of(verdict: Verdict, content: Record) -> [u64; 5]
+// The length, the method, the count, the limit, the answer's kind and the record's.
+fn words_of(verdict: Verdict, content: Record) -> [u64; 6]
     ensures { λ r. ⌜ r ≡ wordsOf verdict content ⌝ }
 {
     match verdict {
@@ -292,9 +314,10 @@ fn words_of(verdict: Verdict, content: Record) -> [u64; 5]
                 content.count as u64,
                 content.limit,
                 kind_of(answer),
+                content.kind,
             ]
         }
-        Verdict::Refused(_) => [0, 0, 0, 0, 0],
+        Verdict::Refused(_) => [0, 0, 0, 0, 0, 0],
     }
 }
 
@@ -303,10 +326,10 @@ fn words_of(verdict: Verdict, content: Record) -> [u64; 5]
 pub extern "C" fn roots_record_read(
     bytes: &[u8],
     coefficients: &mut [f64; 16],
-    points: &mut [f64; 3],
+    points: &mut [f64; 4],
     numbers: &mut [f64; 3],
     tallies: &mut [u64; 4],
-    words: &mut [u64; 5],
+    words: &mut [u64; 6],
 ) -> u64
     ensures refusal { λ r. ⌜ r ≡ readRefusal (now (bytes .entry)) ⌝ }
     ensures coefficients { λ _. ⌜ now (coefficients .exit) ≡ readCoefficients (now (bytes .entry)) ⌝ }
@@ -319,12 +342,13 @@ pub extern "C" fn roots_record_read(
     let verdict = reading.verdict;
     let content = reading.content;
     let method = content.method;
+    let tolerances = content.tolerances;
     let outcome = content.outcome;
     let answer = outcome.answer;
     let progress = outcome.progress;
     let own = content.coefficients;
     *coefficients = own;
-    *points = points_of(method, content.eps);
+    *points = points_of(method, tolerances);
     *numbers = numbers_of(answer);
     *tallies = counts_of(progress);
     *words = words_of(verdict, content);

@@ -13,7 +13,7 @@ use Rattle.numerical.specs.declared.Interval.{Interval}
 use Rattle.numerical.specs.declared.Outcome.{Outcome}
 use Rattle.numerical.specs.declared.Progress.{Progress}
 use Rattle.numerical.specs.declared.Sample.{Sample}
-use Rattle.simple_convergency.specs.Stop.{foundAt, convergedAt}
+use Rattle.simple_convergency.specs.Stop.{foundAt, flatAt, convergedAt}
 use Rattle.simple_convergency.specs.declared.StopRule.{StopRule}
 use Rattle.polynom.specs.Polynom.{evaluated, evaluatedBoth}
 use Rattle.polynom.specs.declared.ValueAndDerivative.{ValueAndDerivative}
@@ -38,7 +38,7 @@ pub data Test : Type 0 where
 abbrev pub holds : StopRule → Test → Bool
 holds stop (found p) = foundAt stop (p .y)
 holds stop (converged p q) = convergedAt stop p q
-holds stop (flat y) = foundAt stop y
+holds stop (flat y) = flatAt stop y
 holds stop (alike p q) = sameSign (p .y) (q .y)
 
 pub data Note : Type 0 where

@@ -12,7 +12,7 @@ use Rattle.numerical.specs.Answers.{kindOf}
 use Rattle.numerical.specs.declared.Answer.{Answer}
 use Rattle.numerical.specs.declared.Answer.the-variants.{ByValue, ByWidth, Refused}
 use Rattle.numerical.specs.declared.Sample.{Sample}
-use Rattle.simple_convergency.specs.Stop.{foundAt, convergedAt}
+use Rattle.simple_convergency.specs.Stop.{foundAt, flatAt, convergedAt}
 use Rattle.simple_convergency.specs.declared.StopRule.{StopRule}
 use Rattle.polynom.specs.Polynom.{value, valueAndDerivative}
 use Rattle.polynom.specs.declared.Evaluated.{Evaluated}
@@ -118,7 +118,7 @@ pub data Reason (a : List Float) (stop : StopRule) (most : ℕ) : Answer → Lis
       Reason a stop most (Refused 6) (noted (tested (alike p q) true) ∷ h)
   -- 7: the flatness test held
   of-flatness :
-      {y : Float} {h : List Event} → Slope a y → foundAt stop y ≡ true → Going stop most h →
+      {y : Float} {h : List Event} → Slope a y → flatAt stop y ≡ true → Going stop most h →
       Reason a stop most (Refused 7) (noted (tested (flat y) true) ∷ h)
   -- 8: the steps reached the limit, and no stop test made held
   of-limit : {h : List Event} → stepsIn h ≡ most → someEnds stop h ≡ false → Reason a stop most (Refused 8) h

@@ -53,7 +53,7 @@ landed stop s x =
     (answers (ByWidth x x (s .second .x)))
     (valueAt x (arrived stop s))
 
--- "Each step: 7 if |y1 - y2| < eps; candidate x; 9"
+-- "Each step: 7 if |y1 - y2| < the value tolerance; candidate x; 9"
 unfoldable pub turnFrom : StopRule → Secant → Prog (Turned Secant)
 turnFrom stop s =
     stops stop (flat (sub binary64 (s .first .y) (s .second .y)))

@@ -154,7 +154,7 @@ fn take_turn(a: &[f64], stop: StopRule, s: Secant, progress: Progress) -> Turn
     requires { ⌜ Room 3 progress ⌝ }
     ensures { λ r. ⌜ viewed r ≡ play tallied (oracle (now (a .entry))) (turnFrom stop s) progress ⌝ }
 {
-    if stop.found(s.first.y - s.second.y) {
+    if stop.flat(s.first.y - s.second.y) {
         return ended(Answer::Refused(7), progress);
     }
     let x = candidate(s);

@@ -9,13 +9,13 @@ use lib.Dec.{ltb}
 use lib.ListN.{length, take, drop, getD, set, length-set, length-drop, length-append}
 use lib.Seq.{take-all, drop-append-le, drop-drop, drop-set-lt, take-suc-set, take-suc, getD-drop, length-take-le}
 use borrow.Author.Tests.{ltb-true, ltb-false}
-use Rattle.records.specs.Records.{readingOf}
+use Rattle.records.specs.Records.{longestRecord, readingOf}
 use Rattle.records.specs.declared.Reading.{Reading}
 use Rattle.records.specs.declared.Verdict.{Verdict}
 use Rattle.records.specs.declared.Verdict.the-variants as verdict
 use Rattle.line_text.specs.Texts.{Put}
 use Rattle.line_text.specs.TextLaws.{put-both, put-nothing}
-use Rattle.record_text.specs.RecordTexts.{recordText, refusedText, readingText, countTaken, takenBy}
+use Rattle.record_text.specs.RecordTexts.{longestLine, recordText, refusedText, readingText, countTaken, takenBy}
 use Rattle.record_text.specs.PrefixLaws.{bytes-hold, refused-eleven, record-stays, refusal-stays}
 use Rattle.show.specs.Streams.{Shows, nothing, line, refused, Filled}
 
@@ -107,10 +107,10 @@ module _ {block : List ℕ} {from : ℕ} {out now : List ℕ} {at waiting : ℕ}
         }
 
     -- the buffer is full
-    pub fill-full : (least : ℕ) → p ≤ waiting + 563 → waiting + 563 ≤ length now → length now ≡ length out → Filled block from least out after (record { at = at + n; waiting = p; «is_right» = true })
+    pub fill-full : (least : ℕ) → p ≤ waiting + longestLine → waiting + longestLine ≤ length now → length now ≡ length out → Filled block from least out after (record { at = at + n; waiting = p; «is_right» = true })
     fill-full least j k m = fill-ends fill-on least (let b = g .begun in omega arith) (omega arith)
 
-  pub fill-wrong : n ≡ 0 → (least : ℕ) → 1 ≤ least → least ≤ length block - at → p ≤ waiting + 563 → waiting + 563 ≤ length now → length now ≡ length out → Filled block from least out after (record { at = at; waiting = p; «is_right» = false })
+  pub fill-wrong : n ≡ 0 → (least : ℕ) → 1 ≤ least → least ≤ length block - at → p ≤ waiting + longestLine → waiting + longestLine ≤ length now → length now ≡ length out → Filled block from least out after (record { at = at; waiting = p; «is_right» = false })
   fill-wrong q least a b j k m =
       record {
         within = g .within;
@@ -128,15 +128,15 @@ module _ {block : List ℕ} {from : ℕ} {out now : List ℕ} {at waiting : ℕ}
       some : (u : List ℕ) → 0 < length (drop at block ++ u)
       some u = rw (length-append (drop at block) u) (let m = left in omega arith)
 
-      stays : (u : List ℕ) → (least < 256 → u ≡ []) → readingOf (drop at block ++ u) .verdict ≡ verdict.Refused 11
-      stays u f = go (ltb least 256) refl
+      stays : (u : List ℕ) → (least < longestRecord → u ≡ []) → readingOf (drop at block ++ u) .verdict ≡ verdict.Refused 11
+      stays u f = go (ltb least longestRecord) refl
         where
-          go : (b : Bool) → ltb least 256 ≡ b → readingOf (drop at block ++ u) .verdict ≡ verdict.Refused 11
-          go true y = rw (f (ltb-true least 256 y), append-nil) is-refused
-          go false y = refusal-stays (drop at block) u (let m = left in let k = ltb-false least 256 y in omega arith) is-refused
+          go : (b : Bool) → ltb least longestRecord ≡ b → readingOf (drop at block ++ u) .verdict ≡ verdict.Refused 11
+          go true y = rw (f (ltb-true least longestRecord y), append-nil) is-refused
+          go false y = refusal-stays (drop at block) u (let m = left in let k = ltb-false least longestRecord y in omega arith) is-refused
 
 -- too few bytes are left
-pub fill-done : {block : List ℕ} {from : ℕ} {out now : List ℕ} {at waiting : ℕ} → Filling block from out now at waiting → (least : ℕ) → from + least ≤ length block → length block - at < least → waiting + 563 ≤ length now → length now ≡ length out → Filled block from least out now (record { at = at; waiting = waiting; «is_right» = true })
+pub fill-done : {block : List ℕ} {from : ℕ} {out now : List ℕ} {at waiting : ℕ} → Filling block from out now at waiting → (least : ℕ) → from + least ≤ length block → length block - at < least → waiting + longestLine ≤ length now → length now ≡ length out → Filled block from least out now (record { at = at; waiting = waiting; «is_right» = true })
 fill-done g least h l k m = fill-ends g least (let w = g .within in omega arith) (omega arith)
 
 -- ---- the rest moved to the front
@@ -192,7 +192,7 @@ module _ (block : List ℕ) (end at : ℕ) (h : end ≤ length block) where
   pub part-within : at ≤ length (take end block) → at ≤ end
   part-within l = let e = all in omega arith
 
-  pub few-left : {r : ℕ} → r ≡ end - at → length (take end block) < at + 256 → r ≤ 256
+  pub few-left : {r : ℕ} → r ≡ end - at → length (take end block) < at + longestRecord → r ≤ longestRecord
   few-left q l = let e = all in omega arith
 
 -- ---- each input has one text

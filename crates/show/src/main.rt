@@ -1,12 +1,16 @@
-// Shows the records of the input, each as a line: LENGTH METHOD COUNT A0 .. START [START] EPS LIMIT KIND NUMBERS.. STEPS
-// VALUES DERIVATIVES MARK. Where the rest is no record the last line is `refused 11`.
+// Shows the records of the input, each as a line: LENGTH RECORD_KIND METHOD COUNT A0 .. START [START] VALUE_TOLERANCE
+// POINT_TOLERANCE LIMIT KIND NUMBERS.. STEPS VALUES DERIVATIVES MARK. Where the rest is no record the last line is `refused 11`.
 ghost use mathlib.Core.Bool.{true};
 ghost use mathlib.Core.Path.{_≡_};
 ghost use Prim.Native.Nat.{_+_, _-_, _≤_, _<_};
 ghost use lib.ListN.{length, take, drop};
+ghost use Rattle.record_text.specs.RecordTexts.{longestLine};
+ghost use Rattle.records.specs.Records.{longestRecord};
 ghost use Rattle.show.specs.Streams.{Filled};
 use libc::STDIN_FILENO;
 use libc::STDOUT_FILENO;
+use record_text::record::LONGEST_LINE;
+use records::Record;
 
 // Up to which byte a part of a block is shown, how many bytes of lines wait, and whether each was of a record.
 struct Pause {
@@ -29,7 +33,7 @@ struct Turn {
 
 // Puts the lines of records from an index on, while `least` bytes are left and another line finds room.
 fn fill(block: &[u8], from: usize, least: usize, out: &mut [u8]) -> Pause
-    requires { ⌜ (1 ≤ least) × (from + least ≤ length (now block)) × (563 ≤ length (now out)) ⌝ }
+    requires { ⌜ (1 ≤ least) × (from + least ≤ length (now block)) × (longestLine ≤ length (now out)) ⌝ }
     ensures { λ r. ⌜ Filled (now (block .entry)) from least (now (out .entry)) (now (out .exit)) r ⌝ }
 {
     let mut at = from;
@@ -45,7 +49,7 @@ fn fill(block: &[u8], from: usize, least: usize, out: &mut [u8]) -> Pause
             };
         }
         at += shown.taken;
-        if out.len() - 563 < waiting {
+        if out.len() - LONGEST_LINE < waiting {
             break;
         }
     }
@@ -58,7 +62,7 @@ fn fill(block: &[u8], from: usize, least: usize, out: &mut [u8]) -> Pause
 
 // Shows a block while `least` bytes are left of it. Each time the lines have filled their buffer they are written.
 fn shown(block: &[u8], least: usize, out: &mut [u8]) -> Reached
-    requires { ⌜ (1 ≤ least) × (563 ≤ length (now out)) ⌝ }
+    requires { ⌜ (1 ≤ least) × (longestLine ≤ length (now out)) ⌝ }
     ensures { λ r. ⌜ r .at ≤ length (now (block .entry)) ⌝ }
     ensures { λ r. ⌜ (r .«is_open» ≡ true → length (now (block .entry)) < r .at + least) ⌝ }
 {
@@ -95,7 +99,7 @@ fn moved(block: &mut [u8], from: usize, to: usize) -> usize
 
 // Shows what is left at the input's end.
 fn closed(block: &[u8], out: &mut [u8]) -> Turn
-    requires { ⌜ 563 ≤ length (now out) ⌝ }
+    requires { ⌜ longestLine ≤ length (now out) ⌝ }
     ensures { λ r. ⌜ r .kept ≡ 0 ⌝ }
 {
     shown(block, 1, out);
@@ -105,11 +109,11 @@ fn closed(block: &[u8], out: &mut [u8]) -> Turn
     }
 }
 
-// Reads what comes behind the bytes that are left, and shows its records. No record is longer than 256 bytes, so what is
-// refused with as many at hand is no record, whatever follows.
+// Reads what comes behind the bytes that are left, and shows its records. What is refused with as many bytes at
+// hand as the longest record has is no record, whatever follows.
 fn read_block(block: &mut [u8], kept: usize, out: &mut [u8]) -> Turn
-    requires { ⌜ (kept ≤ 256) × (256 < length (now block)) × (563 ≤ length (now out)) ⌝ }
-    ensures { λ r. ⌜ r .kept ≤ 256 ⌝ }
+    requires { ⌜ (kept ≤ longestRecord) × (longestRecord < length (now block)) × (longestLine ≤ length (now out)) ⌝ }
+    ensures { λ r. ⌜ r .kept ≤ longestRecord ⌝ }
 {
     let got = libc::read(STDIN_FILENO, &mut block[kept..]);
     if got <= 0 {
@@ -117,7 +121,7 @@ fn read_block(block: &mut [u8], kept: usize, out: &mut [u8]) -> Turn
     }
     let n = io::count(got, &block[kept..]);
     let end = kept + n;
-    let s = shown(&block[..end], 256, out);
+    let s = shown(&block[..end], Record::LONGEST, out);
     if s.is_open {
         return Turn {
             kept: moved(block, s.at, end),

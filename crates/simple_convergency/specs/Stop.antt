@@ -6,14 +6,15 @@ use lib.Ieee.{Float, binary64, ofBits, lt, sub}
 use lib.Ieee.Scale.{finite}
 use Rattle.doubles.specs.Doubles.{absolute}
 use Rattle.simple_convergency.specs.declared.StopRule.{StopRule}
+use Rattle.simple_convergency.specs.declared.Tolerances.{Tolerances}
 use Rattle.simple_convergency.specs.declared.Checked.{Checked}
 use Rattle.simple_convergency.specs.declared.Checked.the-variants.{Rule, Refused}
 
--- "The stop rule owns its constants: least eps 2^-300, greatest limit 400, most coefficients 16"
-abbrev pub leastEps : Float
-leastEps = ofBits binary64 0x2d30_0000_0000_0000
+-- "The stop rule owns its constants: least tolerance 2^-300, greatest limit 400, most coefficients 16"
+abbrev pub leastTolerance : Float
+leastTolerance = ofBits binary64 0x2d30_0000_0000_0000
 
--- the least eps is 2 ^ -leastPower
+-- the least tolerance is 2 ^ -leastPower
 abbrev pub leastPower : ℕ
 leastPower = 300
 
@@ -27,24 +28,39 @@ mostCoefficients = 16
 abbrev pub plainLimit : ℕ
 plainLimit = 30
 
--- "eps isn't finite or is below 2^-300"
-unfoldable pub badEps : Float → Bool
-badEps eps = cond (finite eps) (lt eps leastEps) true
+abbrev pub tolerancesOf : Float → Float → Tolerances
+tolerancesOf value point = record { value = value; point = point }
 
--- a rule, or refusal 4 for its eps, or else refusal 5 for its limit
-unfoldable pub checkedOf : Float → ℕ → Checked
-checkedOf eps limit =
-    cond (badEps eps) (Refused 4)
+-- "One eps, as the Rust has it, sets both"
+abbrev pub oneEps : Float → Tolerances
+oneEps eps = tolerancesOf eps eps
+
+-- a tolerance that "isn't finite or is below 2^-300"
+unfoldable pub badTolerance : Float → Bool
+badTolerance tolerance = cond (finite tolerance) (lt tolerance leastTolerance) true
+
+-- "4 if either is bad"
+unfoldable pub eitherBad : Tolerances → Bool
+eitherBad tolerances = cond (badTolerance (tolerances .value)) true (badTolerance (tolerances .point))
+
+-- a rule, or refusal 4 for its tolerances, or else refusal 5 for its limit
+unfoldable pub checkedOf : Tolerances → ℕ → Checked
+checkedOf tolerances limit =
+    cond (eitherBad tolerances) (Refused 4)
     (cond (ltb greatestLimit limit) (Refused 5)
-    (Rule (record { eps = eps; limit = limit })))
+    (Rule (record { tolerances = tolerances; limit = limit })))
 
--- "'Found' means |y| < eps": strictly
+-- "'Found' means |y| < the value tolerance": strictly
 unfoldable pub foundAt : StopRule → Float → Bool
-foundAt stop y = lt (absolute y) (stop .eps)
+foundAt stop y = lt (absolute y) (stop .tolerances .value)
 
--- "'converged' means |p - q| < eps with the computed difference": strictly
+-- "secant's and Newton's flatness tests" use it too: strictly
+unfoldable pub flatAt : StopRule → Float → Bool
+flatAt stop slope = lt (absolute slope) (stop .tolerances .value)
+
+-- "'converged' means |p - q| < the point tolerance with the computed difference": strictly
 unfoldable pub convergedAt : StopRule → Float → Float → Bool
-convergedAt stop p q = lt (absolute (sub binary64 p q)) (stop .eps)
+convergedAt stop p q = lt (absolute (sub binary64 p q)) (stop .tolerances .point)
 
 -- "m is the larger of 1 and limit"
 abbrev pub turnsOf : StopRule → ℕ

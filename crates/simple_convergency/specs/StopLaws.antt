@@ -1,60 +1,113 @@
 -- What the stop rule's numbers are, and what a rule that was checked keeps to.
-use Prim.Native.Nat.{ℕ, _-_, _≤_}
+use Prim.Native.Nat.{ℕ, _-_, _≤_, _<_}
 use native.Mathlib.Omega.{arith}
 use mathlib.Core.Bool.{Bool, true, false, cond, true≢false}
-use mathlib.Core.Path.{_≡_, refl}
+use mathlib.Core.Path.{_≡_, refl, sym, _∙_}
 use lib.Dec.{T, ltb, T-not}
 use lib.IntN.{negsuc}
 use lib.Ieee.{Float, fin, ofBits, lt, le, isNan}
 use lib.Ieee.Bits.{is-true}
 use lib.Ieee.Scale.{finite}
-use borrow.Author.Tests.{ltb-false}
+use borrow.Author.Tests.{lt-ltb, le-ltb, ltb-false}
 use Rattle.doubles.specs.Compare.{of-true, finite-num, lt-le-trans, no-lt-le}
 use Rattle.doubles.specs.Doubles.{nought, absolute, above}
 use Rattle.doubles.specs.Sizes.{atLeast, not-small}
-use Rattle.simple_convergency.specs.Stop.{leastEps, leastPower, greatestLimit, badEps, checkedOf, foundAt}
+use Rattle.simple_convergency.specs.Stop.{leastTolerance, leastPower, greatestLimit, badTolerance, eitherBad, checkedOf, foundAt}
 use Rattle.simple_convergency.specs.declared.StopRule.{StopRule}
+use Rattle.simple_convergency.specs.declared.Tolerances.{Tolerances}
+use Rattle.simple_convergency.specs.declared.Checked.{Checked}
 use Rattle.simple_convergency.specs.declared.Checked.the-variants.{Rule, Refused}
 
--- the least eps is 1 * 2 ^ -300
-pub least-eps-value : leastEps ≡ fin false 1 (negsuc (leastPower - 1))
+-- the least tolerance is 1 * 2 ^ -300
+pub least-tolerance-value : leastTolerance ≡ fin false 1 (negsuc (leastPower - 1))
 unfolding ofBits
-least-eps-value = refl
+least-tolerance-value = refl
 
--- a rule that passed the check: the numbers are those given, eps is finite and not below the least, the limit is in range
-pub record Passed (eps : Float) (limit : ℕ) (stop : StopRule) : Type 0 where
-  pub same-eps : stop .eps ≡ eps
+-- where neither is bad, each is good
+pub record Good (tolerances : Tolerances) : Type 0 where
+  pub of-values : badTolerance (tolerances .value) ≡ false
+  pub of-points : badTolerance (tolerances .point) ≡ false
+
+pub both-good : (tolerances : Tolerances) → eitherBad tolerances ≡ false → Good tolerances
+unfolding eitherBad
+both-good tolerances e = go (badTolerance (tolerances .value)) refl e
+  where
+    go : (b : Bool) → badTolerance (tolerances .value) ≡ b → cond b true (badTolerance (tolerances .point)) ≡ false → Good tolerances
+    go true v e = absurd (true≢false e)
+    go false v e = record { of-values = v; of-points = e }
+
+pub good-both : {tolerances : Tolerances} → Good tolerances → eitherBad tolerances ≡ false
+unfolding eitherBad
+good-both g = rw (g .of-values) (g .of-points)
+
+-- ---- the check: either tolerance that is bad refuses the rule, whatever the other is
+
+pub value-bad : (t : Tolerances) {f : Bool} → f ≡ badTolerance (t .value) → f ≡ true → eitherBad t ≡ true
+unfolding eitherBad
+value-bad t e h = rw (← e, h)
+
+pub point-bad : (t : Tolerances) {f : Bool} → f ≡ badTolerance (t .point) → f ≡ true → eitherBad t ≡ true
+unfolding eitherBad
+point-bad t e h = rw (← e, h) (go (badTolerance (t .value)))
+  where
+    go : (b : Bool) → cond b true true ≡ true
+    go true = refl
+    go false = refl
+
+none-bad : (t : Tolerances) {f g : Bool} → f ≡ badTolerance (t .value) → f ≡ false → g ≡ badTolerance (t .point) → g ≡ false → eitherBad t ≡ false
+none-bad t v x p y = good-both (record { of-values = sym v ∙ x; of-points = sym p ∙ y })
+
+module _ (t : Tolerances) (limit : ℕ) {r : Checked} where
+  pub tolerance-refused : eitherBad t ≡ true → r ≡ Refused 4 → r ≡ checkedOf t limit
+  unfolding checkedOf
+  tolerance-refused e k = rw e k
+
+  -- where neither is
+  module _ {f g : Bool} (v : f ≡ badTolerance (t .value)) (x : f ≡ false) (p : g ≡ badTolerance (t .point)) (y : g ≡ false) where
+    pub limit-refused : greatestLimit < limit → r ≡ Refused 5 → r ≡ checkedOf t limit
+    unfolding checkedOf
+    limit-refused h k = rw (none-bad t v x p y, lt-ltb greatestLimit limit h) k
+
+    pub rule-given : limit ≤ greatestLimit → r ≡ Rule (record { tolerances = t; limit = limit }) → r ≡ checkedOf t limit
+    unfolding checkedOf
+    rule-given h k = rw (none-bad t v x p y, le-ltb greatestLimit limit h) k
+
+-- a rule that passed the check: the numbers are those given, the tolerances are finite and not below the least, the limit is in range
+pub record Passed (tolerances : Tolerances) (limit : ℕ) (stop : StopRule) : Type 0 where
+  pub same-tolerances : stop .tolerances ≡ tolerances
   pub same-limit : stop .limit ≡ limit
-  pub good-eps : badEps eps ≡ false
+  pub good : Good tolerances
   pub in-range : limit ≤ greatestLimit
 
-pub passed : (eps : Float) (limit : ℕ) (stop : StopRule) → checkedOf eps limit ≡ Rule stop → Passed eps limit stop
+pub passed : (tolerances : Tolerances) (limit : ℕ) (stop : StopRule) → checkedOf tolerances limit ≡ Rule stop → Passed tolerances limit stop
 unfolding checkedOf
-passed eps limit stop e = go (badEps eps) (ltb greatestLimit limit) refl refl e
+passed tolerances limit stop e = go (eitherBad tolerances) (ltb greatestLimit limit) refl refl e
   where
-    go : (b c : Bool) → badEps eps ≡ b → ltb greatestLimit limit ≡ c → cond b (Refused 4) (cond c (Refused 5) (Rule (record { eps = eps; limit = limit }))) ≡ Rule stop → Passed eps limit stop
+    go :
+        (b c : Bool) → eitherBad tolerances ≡ b → ltb greatestLimit limit ≡ c → cond b (Refused 4) (cond c (Refused 5) (Rule (record { tolerances = tolerances; limit = limit }))) ≡ Rule stop →
+        Passed tolerances limit stop
     go true c p q e = absurd (let z : _≡_ {A = ℕ} 0 1 = cc in omega arith)
     go false true p q e = absurd (let z : _≡_ {A = ℕ} 0 1 = cc in omega arith)
-    go false false p q e = record { same-eps = cc; same-limit = cc; good-eps = p; in-range = ltb-false greatestLimit limit q }
+    go false false p q e = record { same-tolerances = cc; same-limit = cc; good = both-good tolerances p; in-range = ltb-false greatestLimit limit q }
 
--- an eps that passed is not below the least
-pub least-below : (eps : Float) → badEps eps ≡ false → T (le leastEps eps)
-unfolding badEps isNan ofBits
-least-below eps e = go (finite eps) refl e
+-- a tolerance that passed is not below the least
+pub least-below : (tolerance : Float) → badTolerance tolerance ≡ false → T (le leastTolerance tolerance)
+unfolding badTolerance isNan ofBits
+least-below tolerance e = go (finite tolerance) refl e
   where
-    go : (b : Bool) → finite eps ≡ b → cond b (lt eps leastEps) true ≡ false → T (le leastEps eps)
-    go true f e = no-lt-le leastEps eps tt (finite-num eps (rw f tt)) (λ t. rw e at t)
+    go : (b : Bool) → finite tolerance ≡ b → cond b (lt tolerance leastTolerance) true ≡ false → T (le leastTolerance tolerance)
+    go true f e = no-lt-le leastTolerance tolerance tt (finite-num tolerance (rw f tt)) (λ t. rw e at t)
     go false f e = absurd (true≢false e)
 
 -- it is above zero
-pub good-eps-above : (eps : Float) → badEps eps ≡ false → above eps ≡ true
+pub good-above : (tolerance : Float) → badTolerance tolerance ≡ false → above tolerance ≡ true
 unfolding lt ofBits
-good-eps-above eps e = is-true (lt nought eps) (lt-le-trans nought leastEps eps tt (least-below eps e))
+good-above tolerance e = is-true (lt nought tolerance) (lt-le-trans nought leastTolerance tolerance tt (least-below tolerance e))
 
 -- a finite value that is not found is 2 ^ -300 or more in size
-pub not-found-size : (stop : StopRule) (y : Float) → badEps (stop .eps) ≡ false → finite y ≡ true → foundAt stop y ≡ false → T (atLeast leastPower y)
+pub not-found-size : (stop : StopRule) (y : Float) → badTolerance (stop .tolerances .value) ≡ false → finite y ≡ true → foundAt stop y ≡ false → T (atLeast leastPower y)
 unfolding foundAt
-not-found-size stop y g f n = not-small (leastPower - 1) y (of-true (finite y) f) (rw least-eps-value at (less (lt (absolute y) leastEps) (λ t. T-not (lt (absolute y) (stop .eps)) (rw n tt) (lt-le-trans (absolute y) leastEps (stop .eps) t (least-below (stop .eps) g)))))
+not-found-size stop y g f n = not-small (leastPower - 1) y (of-true (finite y) f) (rw least-tolerance-value at (less (lt (absolute y) leastTolerance) (λ t. T-not (lt (absolute y) (stop .tolerances .value)) (rw n tt) (lt-le-trans (absolute y) leastTolerance (stop .tolerances .value) t (least-below (stop .tolerances .value) g)))))
   where
     less : (b : Bool) → (T b → ⊥) → b ≡ false
     less true h = absurd (h tt)

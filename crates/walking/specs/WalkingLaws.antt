@@ -10,7 +10,7 @@ use Rattle.numerical.specs.Tallies.{fresh}
 use Rattle.numerical.specs.declared.Answer.the-variants.{ByValue}
 use Rattle.numerical.specs.declared.Outcome.{Outcome}
 use Rattle.numerical.specs.declared.Progress.{Progress}
-use Rattle.simple_convergency.specs.Stop.{turnsOf, foundAt}
+use Rattle.simple_convergency.specs.Stop.{turnsOf, foundAt, oneEps}
 use Rattle.simple_convergency.specs.declared.StopRule.{StopRule}
 use Rattle.polynom.specs.Polynom.{value, sums, evaluated}
 use Rattle.searching.specs.Programs.{next, searches, oracle, answerOf, stops, test, valueAt, sampled, offered, stepsTo, bind, run, play}
@@ -57,7 +57,7 @@ module _ (a : List Float) (stop : StopRule) (x : Float) where
 
 -- x^2 - 4 from 0 by steps of 1: the third value is found
 pub walk-computes :
-    walking (ofBits binary64 0 ∷ ofBits binary64 0xc010_0000_0000_0000 ∷ []) (record { eps = ofBits binary64 0x3f50_0000_0000_0000; limit = 9 }) (ofBits binary64 0)
+    walking (ofBits binary64 0 ∷ ofBits binary64 0xc010_0000_0000_0000 ∷ []) (record { tolerances = oneEps (ofBits binary64 0x3f50_0000_0000_0000); limit = 9 }) (ofBits binary64 0)
     ≡ record {
       answer = ByValue (ofBits binary64 0x4000_0000_0000_0000) (ofBits binary64 0);
       progress = record { tally = record { steps = record { 0 = 2 }; values = record { 0 = 3 }; derivatives = record { 0 = 0 } }; mark = 0 };

@@ -23,7 +23,7 @@ const DOUBLES: [u64; 12] = [
 fn tolerances() -> Vec<u64> {
     let least = power_of_two(-300);
     let edges = [least, neighbour(least, 1), neighbour(least, -1), power_of_two(-301), -least, -1.0, f64::MIN_POSITIVE];
-    edges.iter().map(|eps| eps.to_bits()).collect()
+    edges.iter().map(|tolerance| tolerance.to_bits()).collect()
 }
 
 // Small numbers, and the same beside 2^8, 2^32 and 2^63, where a shorter word would show them as small.
@@ -48,11 +48,29 @@ fn with_count(flat: &Flat, count: usize) -> Flat {
     changed(flat, |f| f.coefficients = flat.coefficients.iter().copied().cycle().take(count).collect())
 }
 
+// Each tolerance alone, and both.
+fn with_tolerance(flat: &Flat, bits: u64) -> Vec<Flat> {
+    vec![
+        changed(flat, |f| f.value_tolerance = bits),
+        changed(flat, |f| f.point_tolerance = bits),
+        changed(flat, |f| (f.value_tolerance, f.point_tolerance) = (bits, bits)),
+    ]
+}
+
+// The two tolerances the other way round, and another last bit in each.
+fn with_tolerances_apart(flat: &Flat) -> Vec<Flat> {
+    vec![
+        changed(flat, |f| (f.value_tolerance, f.point_tolerance) = (flat.point_tolerance, flat.value_tolerance)),
+        changed(flat, |f| f.value_tolerance ^= 1),
+        changed(flat, |f| f.point_tolerance ^= 1),
+    ]
+}
+
 fn with_double(flat: &Flat, bits: u64) -> Vec<Flat> {
     let mut list: Vec<Flat> = (0..flat.coefficients.len()).map(|i| changed(flat, |f| f.coefficients[i] = bits)).collect();
     list.push(changed(flat, |f| f.first = bits));
     list.push(changed(flat, |f| f.second = bits));
-    list.push(changed(flat, |f| f.eps = bits));
+    list.extend(with_tolerance(flat, bits));
     list.extend((0..3).map(|i| changed(flat, |f| f.numbers[i] = bits)));
     // What the kind does not have, all at once.
     let used = crate::record::numbers(flat.kind) as usize;
@@ -62,10 +80,12 @@ fn with_double(flat: &Flat, bits: u64) -> Vec<Flat> {
 
 pub fn variants(flat: &Flat) -> Vec<Flat> {
     let mut list = vec![flat.clone()];
+    list.extend(words(4).into_iter().map(|kind| changed(flat, |f| f.record_kind = kind)));
     list.extend(words(7).into_iter().map(|method| changed(flat, |f| f.method = method)));
     list.extend((0..=18).chain([40]).map(|count| with_count(flat, count)));
     list.extend(DOUBLES.iter().flat_map(|bits| with_double(flat, *bits)));
-    list.extend(tolerances().into_iter().map(|eps| changed(flat, |f| f.eps = eps)));
+    list.extend(tolerances().into_iter().flat_map(|bits| with_tolerance(flat, bits)));
+    list.extend(with_tolerances_apart(flat));
     list.extend(LIMITS.iter().map(|limit| changed(flat, |f| f.limit = *limit)));
     list.extend(words(30).into_iter().map(|kind| changed(flat, |f| f.kind = kind)));
     list.extend(words(4).into_iter().map(|mark| changed(flat, |f| f.tallies[3] = mark)));

@@ -74,6 +74,50 @@ pub fn lengthened(number: &[u8], more: usize) -> Vec<u8> {
     [others, &[last | 128], &vec![128; more], &[0]].concat()
 }
 
+// Beginnings of a row: of both kinds, of kinds that are none, with needless or too many groups, with a number gone or one too many.
+pub fn heads() -> Vec<Vec<u8>> {
+    let mut list: Vec<Vec<u8>> =
+        [&[][..], &[0], &[1], &[2], &[2, 0], &[1, 2], &[0, 0, 2], &[0, 2, 0], &[0, 2, 0, 2]].map(<[u8]>::to_vec).into();
+    let kinds = [0, 1, 2, 3, 4, 10, 127, 128, 130, 258, (1 << 32) + 2, 1 << 63, (1 << 63) + 2, u64::MAX];
+    list.extend(kinds.map(|kind| groups(0).chain(groups(kind)).collect()));
+    for more in [0, 1, 7, 8, 9] {
+        list.push([&lengthened(&[0], more)[..], &[2]].concat());
+        list.push([&[0], &lengthened(&[2], more)[..]].concat());
+    }
+    for long in too_long() {
+        list.push([&long[..], &[2]].concat());
+        list.push([&[0], &long[..]].concat());
+    }
+    list
+}
+
+// The row behind the head, with as many tolerances as a kind of record has.
+pub fn body(record: &Record, record_kind: u64) -> Vec<u8> {
+    let whole = bytes(&Record { record_kind, ..record.clone() });
+    whole[if record_kind == 1 { 0 } else { 2 }..].to_vec()
+}
+
+// No tolerances: not finite, zeros, below zero, just below 2^-300 and far below.
+const BAD_TOLERANCES: [u64; 9] = [
+    0x7ff0_0000_0000_0000,
+    0xfff0_0000_0000_0000,
+    0x7ff8_0000_0000_0000,
+    0xfff0_0000_0000_0001,
+    0x0000_0000_0000_0000,
+    0x8000_0000_0000_0000,
+    0xbff0_0000_0000_0000,
+    0x2d2f_ffff_ffff_ffff,
+    0x0000_0000_0000_0001,
+];
+
+// The record with its tolerances the other way round, and with each of them bad.
+pub fn other_tolerances(record: &Record) -> Vec<Vec<u8>> {
+    let with = |value_tolerance: u64, point_tolerance: u64| bytes(&Record { value_tolerance, point_tolerance, ..record.clone() });
+    let (value, point) = (record.value_tolerance, record.point_tolerance);
+    let bad = BAD_TOLERANCES.into_iter().flat_map(|bad| [with(bad, point), with(value, bad), with(bad, bad)]);
+    [with(point, value)].into_iter().chain(bad).collect()
+}
+
 fn random_bytes(r: &mut Random, many: u64) -> Vec<u8> {
     (0..many).map(|_| r.next() as u8).collect()
 }
@@ -143,7 +187,10 @@ fn cut(r: &mut Random, mut buffer: Vec<u8>) -> Vec<u8> {
 
 // Random bytes, some of them with a beginning that is often right.
 fn random(r: &mut Random) -> Vec<u8> {
-    let begin = if r.one_in(2) { vec![r.between(1, 5) as u8, r.between(1, 4) as u8] } else { Vec::new() };
+    let mut begin = if r.one_in(2) { vec![r.between(1, 5) as u8, r.between(1, 4) as u8] } else { Vec::new() };
+    if r.one_in(2) {
+        begin.splice(..0, [0, 2]);
+    }
     let many = r.pick(&[8, 40, 300]);
     let many = r.below(many);
     let mut rest = random_bytes(r, many);
@@ -156,16 +203,24 @@ fn random(r: &mut Random) -> Vec<u8> {
 // A record with another number of coefficients, starts or numbers than it may have, or as many as it may.
 fn reshaped(r: &mut Random, record: &Record) -> Vec<u8> {
     let mut other = record.clone();
-    match r.below(4) {
+    match r.below(6) {
         0 => other.coefficients.resize(r.pick(&[0, 0, 1, 16, 17, 17, 18, 127, 128]), 0),
         1 => other.starts.resize(r.pick(&[0, 1, 2, 3]), 0),
         2 => other.numbers.resize(r.pick(&[0, 1, 2, 3, 4]), 0),
+        3 => other.record_kind = r.pick(&[0, 1, 1, 2, 2, 3, 258, u64::MAX]),
+        4 => (other.value_tolerance, other.point_tolerance) = (other.point_tolerance, r.pick(&EDGES)),
         _ => {
             other.kind = r.between(0, 21) as u64;
             other.numbers.resize(crate::record::numbers(other.kind) as usize, 0);
         }
     }
     bytes(&other)
+}
+
+// Any head before the row that either kind has behind it.
+fn headed(r: &mut Random, record: &Record) -> Vec<u8> {
+    let heads = heads();
+    [heads[place(r, heads.len())].clone(), body(record, r.pick(&[1, 2]))].concat()
 }
 
 // A buffer depends on the seed, its index and the records.
@@ -175,6 +230,7 @@ pub fn damaged(seed: u64, index: u64, records: &[Record]) -> Vec<u8> {
     match r.below(16) {
         0..=1 => return random(r),
         2..=3 => return reshaped(r, record),
+        4 => return headed(r, record),
         _ => {}
     }
     let mut buffer = bytes(record);

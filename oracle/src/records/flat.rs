@@ -5,11 +5,13 @@ use crate::record::{self, Record, NO_RECORD};
 // A call and an answer to be written. Some of it may not be looked at.
 #[derive(Clone)]
 pub struct Flat {
+    pub record_kind: u64,
     pub coefficients: Vec<u64>,
     pub method: u64,
     pub first: u64,
     pub second: u64,
-    pub eps: u64,
+    pub value_tolerance: u64,
+    pub point_tolerance: u64,
     pub limit: u64,
     pub kind: u64,
     pub numbers: [u64; 3],
@@ -21,10 +23,10 @@ pub struct Flat {
 pub struct Reading {
     pub result: u64,
     pub coefficients: [u64; 16],
-    pub points: [u64; 3],
+    pub points: [u64; 4],
     pub numbers: [u64; 3],
     pub tallies: [u64; 4],
-    pub words: [u64; 5],
+    pub words: [u64; 6],
 }
 
 // What writing leaves, with the whole buffer.
@@ -43,11 +45,13 @@ fn filled<const N: usize>(list: &[u64]) -> [u64; N] {
 impl Flat {
     pub fn of(record: &Record) -> Self {
         Flat {
+            record_kind: record.record_kind,
             coefficients: record.coefficients.clone(),
             method: record.method,
             first: record.starts[0],
             second: record.starts.get(1).copied().unwrap_or(0),
-            eps: record.eps,
+            value_tolerance: record.value_tolerance,
+            point_tolerance: record.point_tolerance,
             limit: record.limit,
             kind: record.kind,
             numbers: filled(&record.numbers),
@@ -59,10 +63,12 @@ impl Flat {
     pub fn record(&self) -> Record {
         let [steps, values, derivatives, mark] = self.tallies;
         Record {
+            record_kind: self.record_kind,
             method: self.method,
             coefficients: self.coefficients.clone(),
             starts: [self.first, self.second][..record::starts(self.method) as usize].to_vec(),
-            eps: self.eps,
+            value_tolerance: self.value_tolerance,
+            point_tolerance: self.point_tolerance,
             limit: self.limit,
             kind: self.kind,
             numbers: self.numbers[..record::numbers(self.kind) as usize].to_vec(),
@@ -87,20 +93,20 @@ pub fn read(bytes: &[u8]) -> Reading {
         return Reading {
             result: NO_RECORD,
             coefficients: [0; 16],
-            points: [0; 3],
+            points: [0; 4],
             numbers: [0; 3],
             tallies: [0; 4],
-            words: [0; 5],
+            words: [0; 6],
         };
     };
     let second = record.starts.get(1).copied().unwrap_or(0);
     Reading {
         result: 0,
         coefficients: filled(&record.coefficients),
-        points: [record.starts[0], second, record.eps],
+        points: [record.starts[0], second, record.value_tolerance, record.point_tolerance],
         numbers: filled(&record.numbers),
         tallies: [record.steps, record.values, record.derivatives, record.mark],
-        words: [length as u64, record.method, record.coefficients.len() as u64, record.limit, record.kind],
+        words: [length as u64, record.method, record.coefficients.len() as u64, record.limit, record.kind, record.record_kind],
     }
 }
 
@@ -120,12 +126,14 @@ pub mod archive {
     // Double buffers are lent as words of the same size.
     extern "C" {
         fn roots_record_write(
+            record_kind: u64,
             coefficients: *const u64,
             count: usize,
             method: u64,
             first: f64,
             second: f64,
-            eps: f64,
+            value_tolerance: f64,
+            point_tolerance: f64,
             limit: u64,
             kind: u64,
             numbers: *const [u64; 3],
@@ -138,10 +146,10 @@ pub mod archive {
             bytes: *const u8,
             room: usize,
             coefficients: *mut [u64; 16],
-            points: *mut [u64; 3],
+            points: *mut [u64; 4],
             numbers: *mut [u64; 3],
             tallies: *mut [u64; 4],
-            words: *mut [u64; 5],
+            words: *mut [u64; 6],
         ) -> u64;
     }
 
@@ -154,10 +162,10 @@ pub mod archive {
         let mut r = Reading {
             result: 0,
             coefficients: [OLD; 16],
-            points: [OLD; 3],
+            points: [OLD; 4],
             numbers: [OLD; 3],
             tallies: [OLD; 4],
-            words: [OLD; 5],
+            words: [OLD; 6],
         };
         // SAFETY: the pointers are to live buffers of the sizes asked for, which do not overlap.
         r.result = unsafe {
@@ -171,17 +179,20 @@ pub mod archive {
         let from = if a.is_empty() { std::ptr::null() } else { a.as_ptr() };
         let mut buffer = pattern(room);
         let to = if room == 0 { std::ptr::null_mut() } else { buffer.as_mut_ptr() };
-        let [first, second, eps] = [flat.first, flat.second, flat.eps].map(f64::from_bits);
+        let doubles = [flat.first, flat.second, flat.value_tolerance, flat.point_tolerance];
+        let [first, second, value_tolerance, point_tolerance] = doubles.map(f64::from_bits);
         let mut length = OLD;
         // SAFETY: the pointers are to live buffers of the sizes given, which do not overlap.
         let result = unsafe {
             roots_record_write(
+                flat.record_kind,
                 from,
                 a.len(),
                 flat.method,
                 first,
                 second,
-                eps,
+                value_tolerance,
+                point_tolerance,
                 flat.limit,
                 flat.kind,
                 &flat.numbers,

@@ -12,8 +12,9 @@ fn print_reading(whose: &str, reading: &Reading) {
     println!("{whose} reads with result {}", reading.result);
     println!("  coefficients{}", row(&reading.coefficients));
     println!("  points{}, numbers{}", row(&reading.points), row(&reading.numbers));
-    let [length, method, count, limit, kind] = reading.words;
+    let [length, method, count, limit, kind, record_kind] = reading.words;
     println!("  length {length}, method {method}, count {count}, limit {limit}, kind {kind}, tallies {:?}", reading.tallies);
+    println!("  kind of record {record_kind}");
 }
 
 fn print_writing(whose: &str, writing: &Writing) {
@@ -32,7 +33,7 @@ fn differ_in_reading(bytes: &[u8], routes: [&Reading; 2]) -> ! {
 fn differ_in_writing(flat: &Flat, room: usize, routes: [&Writing; 2]) -> ! {
     let _alone = std::io::stdout().lock();
     println!("a difference in writing to a room of {room} bytes:\n{}", line_of(&flat.record()));
-    println!("starts and eps as given:{}, numbers{}", row(&[flat.first, flat.second, flat.eps]), row(&flat.numbers));
+    println!("starts as given:{}, numbers{}", row(&[flat.first, flat.second]), row(&flat.numbers));
     print_writing("the second route", routes[0]);
     print_writing("the archive", routes[1]);
     std::process::exit(1);
@@ -59,10 +60,21 @@ pub fn write(flat: &Flat, room: usize) -> Writing {
 
 // The call and the answer out of what was read, as they would be handed to the writer.
 pub fn as_given(reading: &Reading) -> Flat {
-    let [_, method, count, limit, kind] = reading.words;
-    let [first, second, eps] = reading.points;
-    let coefficients = reading.coefficients[..count as usize].to_vec();
-    Flat { coefficients, method, first, second, eps, limit, kind, numbers: reading.numbers, tallies: reading.tallies }
+    let [_, method, count, limit, kind, record_kind] = reading.words;
+    let [first, second, value_tolerance, point_tolerance] = reading.points;
+    Flat {
+        record_kind,
+        coefficients: reading.coefficients[..count as usize].to_vec(),
+        method,
+        first,
+        second,
+        value_tolerance,
+        point_tolerance,
+        limit,
+        kind,
+        numbers: reading.numbers,
+        tallies: reading.tallies,
+    }
 }
 
 // Both must read alike, and what reads must be written back as the same bytes. Says whether it reads.

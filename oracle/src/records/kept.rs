@@ -1,6 +1,6 @@
-// The stored list, inputs/records.txt: CALL = ANSWER = BYTES for a record, refused = BYTES for a buffer that is none.
+// The stored list, inputs/records.txt: KIND CALL = ANSWER = BYTES for a record, refused = BYTES for a buffer that is none.
 
-use crate::damage::{lengthened, numbers_in};
+use crate::damage::{body, lengthened, numbers_in};
 use crate::families::{neighbour, power_of_two};
 use crate::made::{self, CASES};
 use crate::record::{bytes, groups, read, Record};
@@ -13,54 +13,57 @@ fn fail(reason: &str) -> ! {
     std::process::exit(1);
 }
 
-// One of W1 to W13, out of cases.txt.
-fn case(number: usize) -> Record {
+// One of W1 to W13, out of cases.txt, in a record of that kind.
+fn case(number: usize, record_kind: u64) -> Record {
     let name = format!(" W{number}:");
     let line = CASES.lines().find(|line| line.contains(&name));
-    let record = line.and_then(|line| record_in(line.split('#').next()?));
+    let record = line.and_then(|line| record_in(&format!("{record_kind} {}", line.split('#').next()?)));
     record.unwrap_or_else(|| fail(&format!("cases.txt has no{name}")))
 }
 
+const BEFORE: [&str; 6] = ["the method", "the count", "coefficient 0", "coefficient 1", "start 0", "start 1"];
+const BEHIND: [&str; 9] =
+    ["the limit", "the answer's kind", "the root", "p", "q", "the steps", "the values", "the derivatives", "the mark"];
+
+fn head(record_kind: u64) -> &'static [&'static str] {
+    match record_kind {
+        1 => &[],
+        _ => &["the 0", "the record's kind"],
+    }
+}
+
+fn tolerances(record_kind: u64) -> &'static [&'static str] {
+    match record_kind {
+        1 => &["eps"],
+        _ => &["the value tolerance", "the point tolerance"],
+    }
+}
+
 // The numbers of W9, which has every field, in their order.
-const FIELDS: [&str; 16] = [
-    "the method",
-    "the count",
-    "coefficient 0",
-    "coefficient 1",
-    "start 0",
-    "start 1",
-    "eps",
-    "the limit",
-    "the kind",
-    "the root",
-    "p",
-    "q",
-    "the steps",
-    "the values",
-    "the derivatives",
-    "the mark",
-];
-const DOUBLES: [usize; 8] = [2, 3, 4, 5, 6, 9, 10, 11];
+fn fields(record_kind: u64) -> Vec<&'static str> {
+    [head(record_kind), &BEFORE, tolerances(record_kind), &BEHIND].concat()
+}
 
 // A record with the groups of one of its numbers replaced.
-fn with(record: &Record, field: usize, number: &[u8]) -> Vec<u8> {
+fn with(record: &Record, field: &str, number: &[u8]) -> Vec<u8> {
     let mut numbers = numbers_in(&bytes(record));
-    numbers[field] = number.to_vec();
+    let place = fields(record.record_kind).iter().position(|name| *name == field);
+    numbers[place.unwrap_or_else(|| fail(&format!("no field has the name {field}")))] = number.to_vec();
     numbers.concat()
 }
 
-fn with_number(record: &Record, field: usize, number: u64) -> Vec<u8> {
+fn with_number(record: &Record, field: &str, number: u64) -> Vec<u8> {
     with(record, field, &groups(number).collect::<Vec<u8>>())
 }
 
 type Refused = Vec<(String, Vec<u8>)>;
 
 // Buffers whose groups are no row of numbers, or too short a row.
-fn refused_groups() -> Refused {
-    let w9 = case(9);
+fn refused_groups(kind: u64) -> Refused {
+    let w9 = case(9, kind);
     let numbers = numbers_in(&bytes(&w9));
-    let mut list = vec![("no bytes".to_string(), Vec::new())];
-    for (i, name) in FIELDS.iter().enumerate() {
+    let mut list = Vec::new();
+    for (i, name) in fields(kind).into_iter().enumerate() {
         let before = numbers[..i].concat();
         let mut note = |what: String, bytes: Vec<u8>| list.push((what, bytes));
         if i > 0 {
@@ -69,48 +72,50 @@ fn refused_groups() -> Refused {
         if numbers[i].len() > 1 {
             note(format!("ends within {name}"), [&before, &numbers[i][..numbers[i].len() - 1]].concat());
         }
-        note(format!("{name}: a needless last group"), with(&w9, i, &lengthened(&numbers[i], 0)));
-        note(format!("{name}: a tenth group of 2"), with(&w9, i, &[vec![0x80; 9], vec![0x02]].concat()));
-        note(format!("{name}: eleven groups"), with(&w9, i, &[vec![0x80; 10], vec![0x01]].concat()));
+        note(format!("{name}: a needless last group"), with(&w9, name, &lengthened(&numbers[i], 0)));
+        note(format!("{name}: a tenth group of 2"), with(&w9, name, &[vec![0x80; 9], vec![0x02]].concat()));
+        note(format!("{name}: eleven groups"), with(&w9, name, &[vec![0x80; 10], vec![0x01]].concat()));
     }
     list
 }
 
-fn refused_doubles() -> Refused {
-    let w9 = case(9);
+fn refused_doubles(kind: u64) -> Refused {
+    let w9 = case(9, kind);
     let mut list = Vec::new();
-    for field in DOUBLES {
+    for field in [&BEFORE[2..], tolerances(kind), &BEHIND[2..5]].concat() {
         for (name, x) in [("infinite", f64::INFINITY), ("minus infinite", -f64::INFINITY), ("no number", f64::NAN)] {
-            list.push((format!("{}: {name}", FIELDS[field]), with_number(&w9, field, x.to_bits())));
+            list.push((format!("{field}: {name}"), with_number(&w9, field, x.to_bits())));
         }
     }
     let least = power_of_two(-300);
-    for (name, eps) in
-        [("just below 2^-300", neighbour(least, -1)), ("2^-301", least / 2.0), ("0", 0.0), ("-0", -0.0), ("-4", -4.0)]
-    {
-        list.push((format!("eps: {name}"), with_number(&w9, 6, eps.to_bits())));
+    for field in tolerances(kind) {
+        for (name, tolerance) in
+            [("just below 2^-300", neighbour(least, -1)), ("2^-301", least / 2.0), ("0", 0.0), ("-0", -0.0), ("-4", -4.0)]
+        {
+            list.push((format!("{field}: {name}"), with_number(&w9, field, tolerance.to_bits())));
+        }
     }
     list
 }
 
 // Numbers out of their range. Those that a shorter word would show in range are among them.
-fn refused_words() -> Refused {
-    let (w9, w13) = (case(9), case(13));
+fn refused_words(kind: u64) -> Refused {
+    let (w9, w13) = (case(9, kind), case(13, kind));
     let mut list = Vec::new();
-    let mut note = |record: &Record, field: usize, number: u64| {
-        list.push((format!("{}: {number}", FIELDS[field]), with_number(record, field, number)));
+    let mut note = |record: &Record, field: &str, number: u64| {
+        list.push((format!("{field}: {number}"), with_number(record, field, number)));
     };
-    [0, 6, 257, (1 << 32) + 1, u64::MAX].into_iter().for_each(|n| note(&w9, 0, n));
-    [0, 17, 258, u64::MAX].into_iter().for_each(|n| note(&w9, 1, n));
-    [401, (1 << 16) + 10, u64::MAX].into_iter().for_each(|n| note(&w9, 7, n));
-    (2..=15).chain([20, 256, 257, 272, (1 << 32) + 16, u64::MAX]).for_each(|n| note(&w13, 8, n));
-    [3, 4, 256, u64::MAX].into_iter().for_each(|n| note(&w9, 15, n));
+    [0, 6, 257, (1 << 32) + 1, u64::MAX].into_iter().for_each(|n| note(&w9, "the method", n));
+    [0, 17, 258, u64::MAX].into_iter().for_each(|n| note(&w9, "the count", n));
+    [401, (1 << 16) + 10, u64::MAX].into_iter().for_each(|n| note(&w9, "the limit", n));
+    (2..=15).chain([20, 256, 257, 272, (1 << 32) + 16, u64::MAX]).for_each(|n| note(&w13, "the answer's kind", n));
+    [3, 4, 256, u64::MAX].into_iter().for_each(|n| note(&w9, "the mark", n));
     list
 }
 
 // Rows of the wrong shape: another number of coefficients or of starts than there must be.
-fn refused_shapes() -> Refused {
-    let (w9, w4) = (case(9), case(4));
+fn refused_shapes(kind: u64) -> Refused {
+    let (w9, w4) = (case(9, kind), case(4, kind));
     let counted = |count: usize| bytes(&Record { coefficients: vec![0; count], ..w9.clone() });
     let one_start = bytes(&Record { starts: vec![0], ..w9.clone() });
     let two_starts = bytes(&Record { starts: vec![0, 0], ..w4.clone() });
@@ -122,8 +127,30 @@ fn refused_shapes() -> Refused {
     ]
 }
 
+// Beginnings that neither kind has, and a kind's row behind the other's beginning.
+fn refused_heads() -> Refused {
+    let rows = [1, 2].map(|kind| body(&case(9, kind), kind));
+    let [old, new] = &rows;
+    let mut list = vec![("no bytes".to_string(), Vec::new())];
+    for kind in [0, 1, 3, 4, 127, 128, 130, 258, (1 << 32) + 2, 1 << 63, (1 << 63) + 2, u64::MAX] {
+        let begin: Vec<u8> = groups(0).chain(groups(kind)).collect();
+        list.push((format!("begins 0, {kind}, then as kind 2"), [&begin, &new[..]].concat()));
+    }
+    for kind in [0, 1, 2, 3] {
+        list.push((format!("begins 0, {kind}, then as kind 1"), [&[0, kind], &old[..]].concat()));
+    }
+    let others: [(&str, &[u8]); 5] =
+        [("no 0, 2", &[]), ("0 alone", &[0]), ("2 alone", &[2]), ("2, 0", &[2, 0]), ("0, 2, 0, 2", &[0, 2, 0, 2])];
+    list.extend(others.map(|(name, begin)| (format!("begins {name}, then as kind 2"), [begin, &new[..]].concat())));
+    list
+}
+
 pub fn refused() -> Refused {
-    let list = [refused_groups(), refused_doubles(), refused_words(), refused_shapes()].concat();
+    let mut list = refused_heads();
+    for kind in [1, 2] {
+        let of_kind = [refused_groups(kind), refused_doubles(kind), refused_words(kind), refused_shapes(kind)].concat();
+        list.extend(of_kind.into_iter().map(|(what, bytes)| (format!("kind {kind}, {what}"), bytes)));
+    }
     if let Some((what, _)) = list.iter().find(|(_, bytes)| read(bytes).is_some()) {
         fail(&format!("this reads: {what}"));
     }
@@ -140,14 +167,19 @@ fn print_record(record: &Record, comment: &str) {
 
 // The list, by the second routes to documents 01 and 02 alone.
 pub fn write() {
-    println!("# Records of searches: CALL = ANSWER = BYTES, and refused = BYTES # why. Written by oracle/records --write.");
-    println!("# W1 to W13.");
-    (1..=13).for_each(|number| print_record(&case(number), &format!(" # W{number}")));
-    println!("# Calls of all families by method, each with some of its kinds and marks.");
+    println!("# Records of searches: KIND CALL = ANSWER = BYTES, and refused = BYTES # why. KIND is that of the record.");
+    println!("# Written by oracle/records --write.");
+    for kind in [1, 2] {
+        println!("# W1 to W13, kind {kind}.");
+        (1..=13).for_each(|number| print_record(&case(number, kind), &format!(" # W{number}")));
+    }
+    println!("# Calls of all families by method, each with some of its kinds and marks, in either kind of record.");
     made::of_families(SEED, 4).iter().for_each(|record| print_record(record, ""));
-    println!("# The shortest record and the longest, then answers that no search gives but the layout allows.");
-    [made::shortest(), made::longest()].iter().for_each(|record| print_record(record, ""));
-    (0..60).for_each(|index| print_record(&made::unlikely(SEED, index), ""));
+    println!("# The shortest record and the longest of each kind, then answers that no search gives but the layout allows.");
+    for kind in [1, 2] {
+        [made::shortest(kind), made::longest(kind)].iter().for_each(|record| print_record(record, ""));
+        (0..30).for_each(|index| print_record(&made::unlikely(SEED, (kind - 1) * made::ALL + index), ""));
+    }
     println!("# Refused with 11.");
     refused().iter().for_each(|(what, bytes)| println!("refused = {} # {what}", hex(bytes)));
 }

@@ -6,11 +6,11 @@ use crate::{broken, damage, judge, made};
 
 pub const RECORDS: usize = 1000;
 // So many of them are such as no search gives.
-const UNLIKELY: usize = 120;
+const UNLIKELY: u64 = 2 * made::ALL;
 
-// Whether the records have every method, kind, count and mark, and the extreme doubles.
-fn missing(records: &[Record]) -> Option<String> {
-    let has = |test: &dyn Fn(&Record) -> bool| records.iter().any(test);
+// Whether the records of a kind have every method, kind of answer, count and mark, and the extreme doubles.
+fn missing(records: &[&Record]) -> Option<String> {
+    let has = |test: &dyn Fn(&Record) -> bool| records.iter().any(|record| test(record));
     let holds = |bits: u64| has(&|r| r.coefficients.contains(&bits)) && has(&|r| r.starts.contains(&bits));
     let kind_of_method = |method: u64, kind: u64| has(&|r| r.method == method && r.kind == kind);
     for method in 1..=5 {
@@ -28,14 +28,30 @@ fn missing(records: &[Record]) -> Option<String> {
     extremes.into_iter().find(|bits| !holds(*bits)).map(|bits| format!("{bits:016x} as a coefficient or a start"))
 }
 
+fn fail(reason: &str) -> ! {
+    eprintln!("records: {reason}");
+    std::process::exit(2);
+}
+
 pub fn records(seed: u64) -> Vec<Record> {
-    let mut list = vec![made::shortest(), made::longest()];
-    list.extend((0..UNLIKELY as u64).map(|index| made::unlikely(seed, index)));
+    let mut list: Vec<Record> = [1, 2].iter().flat_map(|kind| [made::shortest(*kind), made::longest(*kind)]).collect();
+    list.extend((0..UNLIKELY).map(|index| made::unlikely(seed, index)));
     list.extend(made::of_calls(seed, RECORDS - list.len()));
-    if let Some(what) = missing(&list) {
-        eprintln!("records: no record has {what}");
-        std::process::exit(2);
+    for kind in [1, 2] {
+        let alike: Vec<&Record> = list.iter().filter(|record| record.record_kind == kind).collect();
+        if let Some(what) = missing(&alike) {
+            fail(&format!("no record of kind {kind} has {what}"));
+        }
+        println!("{} of the {RECORDS} records are of kind {kind}", alike.len());
     }
+    let parted = |test: fn(f64, f64) -> bool| {
+        list.iter().filter(|r| test(f64::from_bits(r.value_tolerance), f64::from_bits(r.point_tolerance))).count()
+    };
+    let (larger, smaller) = (parted(|value, point| value > point), parted(|value, point| value < point));
+    if larger == 0 || smaller == 0 {
+        fail("no record has a larger or a smaller value tolerance");
+    }
+    println!("{larger} have a larger and {smaller} a smaller value tolerance than point tolerance");
     list
 }
 
@@ -97,6 +113,19 @@ pub fn one_byte_changes(records: &[Record], many: usize) {
     println!("{compared} changes of one byte and cuts of {} of them, {read} of which read: no difference", chosen.len());
 }
 
+// Each row behind every head, with as many tolerances as either kind has, and with its tolerances changed.
+pub fn other_heads(records: &[Record]) {
+    let (mut compared, mut read) = (0, 0);
+    for record in records {
+        let headed = |kind: u64| damage::heads().into_iter().map(move |head| [head, damage::body(record, kind)].concat());
+        for buffer in headed(1).chain(headed(2)).chain(damage::other_tolerances(record)) {
+            compared += 1;
+            read += u64::from(judge::read_and_write_back(&buffer));
+        }
+    }
+    println!("{compared} records with another head or other tolerances, {read} of which read: no difference");
+}
+
 pub fn damaged(count: u64, seed: u64, records: &[Record]) {
     let read = (0..count).filter(|index| judge::read_and_write_back(&damage::damaged(seed, *index, records))).count();
     println!("{count} random and damaged buffers, seed {seed}, {read} of which read: no difference");
@@ -104,13 +133,15 @@ pub fn damaged(count: u64, seed: u64, records: &[Record]) {
 
 // Every method with every kind, each with one field after another changed, into every room up to some bytes too many.
 pub fn broken_calls(seed: u64) {
-    let bases = (0..30).map(|index| made::unlikely(seed, index)).chain([made::shortest(), made::longest()]);
+    let unlikely = (0..30).flat_map(|index| [index, index + made::ALL]).map(|index| made::unlikely(seed, index));
+    let bases = unlikely.chain([1, 2].into_iter().flat_map(|kind| [made::shortest(kind), made::longest(kind)]));
+    let most = bytes(&made::longest(2)).len();
     let (mut variants, mut compared, mut refused) = (0, 0, [0, 0]);
     for base in bases {
         for flat in broken::variants(&Flat::of(&base)) {
             variants += 1;
             // One with too many coefficients would be longer than any record.
-            let longest = bytes(&base).len().max(bytes(&flat.record()).len()).min(255);
+            let longest = bytes(&base).len().max(bytes(&flat.record()).len()).min(most);
             for room in 0..=longest + 3 {
                 compared += 1;
                 match judge::write(&flat, room).result {

@@ -1,4 +1,4 @@
-// Records and bytes as text: CALL = ANSWER as README.md has them, bytes as hex digits.
+// Records and bytes as text: KIND CALL = ANSWER as README.md has them, bytes as hex digits.
 
 use crate::call::{self, Call};
 use crate::record::{self, Record};
@@ -14,8 +14,8 @@ pub fn bytes_of(hex: &str) -> Option<Vec<u8>> {
     (0..hex.len()).step_by(2).map(|i| u8::from_str_radix(&hex[i..i + 2], 16).ok()).collect()
 }
 
-// An answer line to its call. Nothing where it is not one.
-pub fn record_of(call: &Call, answer: &str) -> Option<Record> {
+// An answer line to its call, in a record of that kind. Nothing where it is not one.
+pub fn record_of(record_kind: u64, call: &Call, answer: &str) -> Option<Record> {
     let mut fields = answer.split(' ');
     let kind = fields.next()?.parse().ok()?;
     let many = record::numbers(kind);
@@ -24,10 +24,12 @@ pub fn record_of(call: &Call, answer: &str) -> Option<Record> {
     let [steps, values, derivatives, mark] = tallies[..] else { return None };
     let bits = |doubles: &[f64]| doubles.iter().map(|x| x.to_bits()).collect();
     Some(Record {
+        record_kind,
         method: u64::from(call.method),
         coefficients: bits(&call.coefficients),
         starts: bits(&call.starts),
-        eps: call.eps.to_bits(),
+        value_tolerance: call.value_tolerance.to_bits(),
+        point_tolerance: call.point_tolerance.to_bits(),
         limit: call.limit,
         kind,
         numbers,
@@ -41,13 +43,14 @@ pub fn record_of(call: &Call, answer: &str) -> Option<Record> {
 // The other way round, for any record.
 pub fn line_of(r: &Record) -> String {
     let row = |doubles: &[u64]| doubles.iter().map(|bits| format!(" {bits:016x}")).collect::<String>();
-    let call =
-        format!("{} {}{}{}{} {}", r.method, r.coefficients.len(), row(&r.coefficients), row(&r.starts), row(&[r.eps]), r.limit);
-    format!("{call} = {}{} {} {} {} {}", r.kind, row(&r.numbers), r.steps, r.values, r.derivatives, r.mark)
+    let points = row(&r.starts) + &row(&[r.value_tolerance, r.point_tolerance]);
+    let call = format!("{} {}{}{points} {}", r.method, r.coefficients.len(), row(&r.coefficients), r.limit);
+    format!("{} {call} = {}{} {} {} {} {}", r.record_kind, r.kind, row(&r.numbers), r.steps, r.values, r.derivatives, r.mark)
 }
 
-// CALL = ANSWER.
+// KIND CALL = ANSWER.
 pub fn record_in(line: &str) -> Option<Record> {
-    let (call, answer) = line.split_once('=')?;
-    record_of(&call::read(call)?, answer.trim())
+    let (kind, call_and_answer) = line.trim().split_once(' ')?;
+    let (call, answer) = call_and_answer.split_once('=')?;
+    record_of(kind.parse().ok()?, &call::read(call)?, answer.trim())
 }

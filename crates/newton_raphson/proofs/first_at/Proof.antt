@@ -14,8 +14,8 @@ returns : tie.Need-returns
 unfolding firstAt
 returns c = λ cs. search steps
 
-found-requires-2 : tie.Need-found-requires-2
-found-requires-2 c κs = search needs
+flat-requires : tie.Need-flat-requires
+flat-requires c κs = search needs
 
 nudge-requires : tie.Need-nudge-requires
 nudge-requires c κs = search needs
@@ -38,7 +38,7 @@ first-at-spec =
     found-requires
     by-value-requires
     returns
-    found-requires-2
+    flat-requires
     nudge-requires
     returns-2
     onward-requires

@@ -14,8 +14,8 @@ returns : tie.Need-returns
 unfolding laterAt
 returns c = λ cs. search steps
 
-found-requires-2 : tie.Need-found-requires-2
-found-requires-2 c κs = search needs
+flat-requires : tie.Need-flat-requires
+flat-requires c κs = search needs
 
 ended-requires : tie.Need-ended-requires
 ended-requires c κs = search needs
@@ -38,7 +38,7 @@ later-at-spec =
     found-requires
     by-value-requires
     returns
-    found-requires-2
+    flat-requires
     ended-requires
     returns-2
     onward-requires

@@ -1,3 +1,4 @@
+use Rattle.record_text.specs.RecordTexts.{longestReply}
 use borrow.Author.Needs.{needs}
 use mathlib.Core.Bool.{false≢true}
 use mathlib.Core.Path.{_≡_, refl}
@@ -9,7 +10,7 @@ use Rattle.record.proofs.answered.Statement.{statement}
 use Rattle.record.proofs.answered.Tie as tie
 
 abbrev Inv-loop : tie.InvT-loop
-Inv-loop block line₀ out₀ s₀ i₀ line out s i = (length line ≡ length line₀) × (length out ≡ length out₀) × (i ≤ length block) × (s .kept ≤ length line) × (513 ≤ length out) × (lineAfter (length line₀) (lineOf line s) (drop i block) ≡ lineAfter (length line₀) (lineOf line₀ s₀) block)
+Inv-loop block line₀ out₀ s₀ i₀ line out s i = (length line ≡ length line₀) × (length out ≡ length out₀) × (i ≤ length block) × (s .kept ≤ length line) × (longestReply ≤ length out) × (lineAfter (length line₀) (lineOf line s) (drop i block) ≡ lineAfter (length line₀) (lineOf line₀ s₀) block)
 
 abbrev μ-loop : tie.MeasureT-loop
 μ-loop block line₀ out₀ s₀ i₀ line out s i = length block - i

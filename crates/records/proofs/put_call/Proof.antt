@@ -5,21 +5,15 @@ use Rattle.records.proofs.put_call.Tie as tie
 use Rattle.records.proofs.put_call.Reads as reads
 use Rattle.records.proofs.put_call.Lts as lts
 use Rattle.records.proofs.put_coefficients.Reads as put-coefficients-reads
+use Rattle.records.proofs.put_head.Reads as put-head-reads
 use Rattle.records.proofs.put_number.Reads as put-number-reads
 use Rattle.records.proofs.put_rule.Reads as put-rule-reads
-use Rattle.roots.proofs.Method.number.Reads as number-reads
 
-number-requires : tie.Need-number-requires
-number-requires c κs = search needs
-
-cast-put-number : tie.Need-cast-put-number
-cast-put-number c = search needs
+put-head-requires : tie.Need-put-head-requires
+put-head-requires c κs = search needs
 
 put-number-requires : tie.Need-put-number-requires
 put-number-requires c κs = search needs
-
-put-number-requires-2 : tie.Need-put-number-requires-2
-put-number-requires-2 c κs = search needs
 
 put-coefficients-requires : tie.Need-put-coefficients-requires
 put-coefficients-requires c κs = search needs
@@ -37,10 +31,8 @@ pub put-call-spec : {M : Type 1} → statement M
 put-call-spec =
     tie.close
     (tie.spec
-    number-requires
-    cast-put-number
+    put-head-requires
     put-number-requires
-    put-number-requires-2
     put-coefficients-requires
     put-rule-requires
     same-length

@@ -15,8 +15,8 @@ slice-aggregate-read-call c = search needs
 read-call-requires : tie.Need-read-call-requires
 read-call-requires c κs = search needs
 
-enum-known-count : tie.Need-enum-known-count
-enum-known-count c = search needs
+enum-known-kind : tie.Need-enum-known-kind
+enum-known-kind c = search needs
 
 enum-told : tie.Need-enum-told
 enum-told c = search needs
@@ -66,7 +66,7 @@ read-spec =
     (tie.spec
     slice-aggregate-read-call
     read-call-requires
-    enum-known-count
+    enum-known-kind
     enum-told
     no-record-requires
     returns

@@ -1,27 +1,28 @@
-use Rattle.records.specs.PartLaws.{no-method, no-count, no-coefficients, no-rule, call-is, if-place, room-for, byte-fits, filled-place}
+use Rattle.records.specs.PartLaws.{no-head, no-count, no-coefficients, no-rule, call-is, if-place, room-for, method-fits, filled-place}
 use borrow.Author.Needs.{needs}
 use Rattle.records.proofs.read_call.Statement.{statement}
 use Rattle.records.proofs.read_call.Tie as tie
 use Rattle.records.proofs.read_call.Reads as reads
 use Rattle.records.proofs.read_call.Lts as lts
+use Rattle.records.proofs.read_head.Reads as read-head-reads
 use Rattle.records.proofs.read_rule.Reads as read-rule-reads
 use Rattle.records.proofs.take_doubles.Reads as take-doubles-reads
 use Rattle.records.proofs.take_within.Reads as take-within-reads
 
-take-within-requires : tie.Need-take-within-requires
-take-within-requires c κs = search needs
+read-head-requires : tie.Need-read-head-requires
+read-head-requires c κs = search needs
 
-enum-known-m : tie.Need-enum-known-m
-enum-known-m c = search needs
+enum-known-kind : tie.Need-enum-known-kind
+enum-known-kind c = search needs
 
 enum-told : tie.Need-enum-told
 enum-told c = search needs
 
 returns : tie.Need-returns
-returns c = search no-method
+returns c = search no-head
 
-take-within-requires-2 : tie.Need-take-within-requires-2
-take-within-requires-2 c κs = search needs
+take-within-requires : tie.Need-take-within-requires
+take-within-requires c κs = search needs
 
 enum-known-k : tie.Need-enum-known-k
 enum-known-k c = search needs
@@ -48,7 +49,7 @@ returns-3 : tie.Need-returns-3
 returns-3 c = search no-coefficients
 
 cast-read-rule : tie.Need-cast-read-rule
-cast-read-rule c = search (byte-fits, needs)
+cast-read-rule c = search (method-fits, needs)
 
 read-rule-requires : tie.Need-read-rule-requires
 read-rule-requires c κs = search filled-place
@@ -75,11 +76,11 @@ pub read-call-spec : {M : Type 1} → statement M
 read-call-spec =
     tie.close
     (tie.spec
-    take-within-requires
-    enum-known-m
+    read-head-requires
+    enum-known-kind
     enum-told
     returns
-    take-within-requires-2
+    take-within-requires
     enum-known-k
     enum-told-2
     returns-2

@@ -1,11 +1,11 @@
-use Rattle.records.specs.PartLaws.{no-starts, no-eps, no-limit, rule-is, few-starts}
+use Rattle.records.specs.PartLaws.{no-starts, no-tolerances, no-limit, rule-is, few-starts}
 use borrow.Author.Needs.{needs}
 use Rattle.records.proofs.read_rule.Statement.{statement}
 use Rattle.records.proofs.read_rule.Tie as tie
 use Rattle.records.proofs.read_rule.Reads as reads
 use Rattle.records.proofs.read_rule.Lts as lts
+use Rattle.records.proofs.read_tolerances.Reads as read-tolerances-reads
 use Rattle.records.proofs.take_doubles.Reads as take-doubles-reads
-use Rattle.records.proofs.take_eps.Reads as take-eps-reads
 use Rattle.records.proofs.take_within.Reads as take-within-reads
 use Rattle.roots.proofs.Method.numbered.Reads as numbered-reads
 use Rattle.roots.proofs.Method.start_count.Reads as start-count-reads
@@ -28,17 +28,17 @@ enum-told c = search needs
 returns : tie.Need-returns
 returns c = search no-starts
 
-take-eps-requires : tie.Need-take-eps-requires
-take-eps-requires c κs = search needs
+read-tolerances-requires : tie.Need-read-tolerances-requires
+read-tolerances-requires c κs = search needs
 
-enum-known-eps : tie.Need-enum-known-eps
-enum-known-eps c = search needs
+enum-known-tolerances : tie.Need-enum-known-tolerances
+enum-known-tolerances c = search needs
 
 enum-told-2 : tie.Need-enum-told-2
 enum-told-2 c = search needs
 
 returns-2 : tie.Need-returns-2
-returns-2 c = search no-eps
+returns-2 c = search no-tolerances
 
 take-within-requires : tie.Need-take-within-requires
 take-within-requires c κs = search needs
@@ -74,8 +74,8 @@ read-rule-spec =
     enum-known-p
     enum-told
     returns
-    take-eps-requires
-    enum-known-eps
+    read-tolerances-requires
+    enum-known-tolerances
     enum-told-2
     returns-2
     take-within-requires

@@ -32,8 +32,8 @@ refusal-of-requires c κs = search needs
 
 returns : tie.Need-returns
 returns c =
-    let s = now (c .before .before .before .before .before .before .before .before .before .before .before .args .bytes) in
-    let e = c .before .before .before .before .before .before .before .before .before .read .ensures in
+    let s = now (c .before .before .before .before .before .before .before .before .before .before .before .before .args .bytes) in
+    let e = c .before .before .before .before .before .before .before .before .before .before .read .ensures in
     (the-read-refusal s e (c .refusal-of .ensures), (the-read-coefficients s e, (the-read-points s e (c .before .before .before .before .points-of .ensures), (the-read-numbers s e (c .before .before .before .numbers-of .ensures), (the-read-tallies s e (c .before .before .counts-of .ensures), the-read-words s e (c .before .words-of .ensures))))))
 
 pub roots-record-read-spec : {M : Type 1} → statement M

@@ -60,7 +60,7 @@ returns c =
     let chosen = c .before .before .before .before .before .before .chosen-by .ensures in
     let outcome = outcome-is (g .kind) (now (g .numbers)) (now (g .tallies)) (c .before .before .before .before .before .before .before .before .before .before .before .before .answer-from .ensures) (c .before .before .before .before .before .before .before .progress-from .ensures) in
     let wrote = c .before .before .before .before .write-chosen .ensures in
-    (the-refusal (now (g .coefficients)) (g .method) (g .first) (g .second) (g .eps) (g .limit) (g .kind) (now (g .numbers)) (now (g .tallies)) (now (g .bytes)) chosen outcome (wrote .0) (c .refusal-of .ensures), (the-bytes (now (g .coefficients)) (g .method) (g .first) (g .second) (g .eps) (g .limit) (g .kind) (now (g .numbers)) (now (g .tallies)) (now (g .bytes)) chosen outcome (wrote .1), the-length (now (g .coefficients)) (g .method) (g .first) (g .second) (g .eps) (g .limit) (g .kind) (now (g .numbers)) (now (g .tallies)) (now (g .bytes)) chosen outcome (wrote .0) (c .before .bytes-in .ensures)))
+    (the-refusal (g .record-kind) (now (g .coefficients)) (g .method) (g .first) (g .second) (g .value) (g .point) (g .limit) (g .kind) (now (g .numbers)) (now (g .tallies)) (now (g .bytes)) chosen outcome (wrote .0) (c .refusal-of .ensures), (the-bytes (g .record-kind) (now (g .coefficients)) (g .method) (g .first) (g .second) (g .value) (g .point) (g .limit) (g .kind) (now (g .numbers)) (now (g .tallies)) (now (g .bytes)) chosen outcome (wrote .1), the-length (g .record-kind) (now (g .coefficients)) (g .method) (g .first) (g .second) (g .value) (g .point) (g .limit) (g .kind) (now (g .numbers)) (now (g .tallies)) (now (g .bytes)) chosen outcome (wrote .0) (c .before .bytes-in .ensures)))
 
 pub roots-record-write-spec : {M : Type 1} → statement M
 roots-record-write-spec =

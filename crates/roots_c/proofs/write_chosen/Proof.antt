@@ -26,10 +26,12 @@ same-length c = search needs
 returns : tie.Need-returns
 returns c =
     let g = c .before .before .before .before .before .before .before .before .before .before .args in
-    known-writes (now (g .a)) (g .eps) (g .limit) (g .outcome) (now (g .bytes)) (g .chosen) (c .before .before .before .before .copied .ensures) (c .before .before .write .ensures) (c .before .before .before .before .before .before .chosen .given .1)
+    known-writes (g .record-kind) (now (g .a)) (g .tolerances) (g .limit) (g .outcome) (now (g .bytes)) (g .chosen) (c .before .before .before .before .copied .ensures) (c .before .before .write .ensures) (c .before .before .before .before .before .before .chosen .given .1)
 
 returns-2 : tie.Need-returns-2
-returns-2 c = search needs
+returns-2 c =
+    let g = c .before .before .before .before .args in
+    unknown-writes (g .record-kind) (now (g .a)) (g .tolerances) (g .limit) (g .outcome) (now (g .bytes)) (g .chosen) (c .enum-told .given .1)
 
 pub write-chosen-spec : {M : Type 1} → statement M
 write-chosen-spec =

@@ -4,8 +4,8 @@ use borrow.Author.Needs.{needs}
 use Rattle.secant.proofs.take_turn.Statement.{statement}
 use Rattle.secant.proofs.take_turn.Tie as tie
 
-found-requires : tie.Need-found-requires
-found-requires c κs = search needs
+flat-requires : tie.Need-flat-requires
+flat-requires c κs = search needs
 
 ended-requires : tie.Need-ended-requires
 ended-requires c κs = search needs
@@ -38,7 +38,7 @@ pub take-turn-spec : {M : Type 1} → statement M
 take-turn-spec =
     tie.close
     (tie.spec
-    found-requires
+    flat-requires
     ended-requires
     returns
     candidate-requires

@@ -1,3 +1,4 @@
+use Rattle.record_text.specs.RecordTexts.{longestLine}
 use borrow.Author.Needs.{needs}
 use mathlib.Core.Path.{_≡_, refl}
 use Prim.Native.Nat.{_+_, _-_, _≤_}
@@ -8,7 +9,7 @@ use Rattle.show.proofs.fill.Statement.{statement}
 use Rattle.show.proofs.fill.Tie as tie
 
 abbrev Inv-loop : tie.InvT-loop
-Inv-loop block from least out₀ at₀ waiting₀ out at waiting = (length out ≡ length out₀) × (waiting + 563 ≤ length out) × Filling block from out₀ out at waiting
+Inv-loop block from least out₀ at₀ waiting₀ out at waiting = (length out ≡ length out₀) × (waiting + longestLine ≤ length out) × Filling block from out₀ out at waiting
 
 abbrev μ-loop : tie.MeasureT-loop
 μ-loop block from least out₀ at₀ waiting₀ out at waiting = length block - at

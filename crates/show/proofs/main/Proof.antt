@@ -1,3 +1,4 @@
+use Rattle.records.specs.Records.{longestRecord}
 use borrow.Author.Needs.{needs}
 use mathlib.Core.Path.{_≡_}
 use Prim.Native.Nat.{_≤_}
@@ -6,7 +7,7 @@ use Rattle.show.proofs.main.Statement.{statement}
 use Rattle.show.proofs.main.Tie as tie
 
 abbrev Inv-loop : tie.InvT-loop
-Inv-loop block₀ out₀ kept₀ is-open₀ turns₀ block out kept is-open turns = (65536 ≡ length block) × (65536 ≡ length out) × (kept ≤ 256)
+Inv-loop block₀ out₀ kept₀ is-open₀ turns₀ block out kept is-open turns = (65536 ≡ length block) × (65536 ≡ length out) × (kept ≤ longestRecord)
 
 abbrev μ-loop : tie.MeasureT-loop
 μ-loop block₀ out₀ kept₀ is-open₀ turns₀ block out kept is-open turns = turns

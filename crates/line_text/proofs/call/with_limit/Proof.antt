@@ -1,5 +1,5 @@
-use borrow.Author.Needs.{needs}
 use Rattle.line_text.specs.ReadingLaws.{limit-wrong, limit-trailing, limit-read}
+use borrow.Author.Needs.{needs}
 use Rattle.line_text.proofs.call.with_limit.Statement.{statement}
 use Rattle.line_text.proofs.call.with_limit.Tie as tie
 
@@ -54,14 +54,23 @@ method-of-requires c κs = search needs
 start-count-requires : tie.Need-start-count-requires
 start-count-requires c κs = search needs
 
-add-eps : tie.Need-add-eps
-add-eps c = search needs
+add-behind : tie.Need-add-behind
+add-behind c = search needs
 
-mul-eps : tie.Need-mul-eps
-mul-eps c = search needs
+mul-value : tie.Need-mul-value
+mul-value c = search needs
 
-shared-slice-read-eps : tie.Need-shared-slice-read-eps
-shared-slice-read-eps c = search needs
+shared-slice-read-value : tie.Need-shared-slice-read-value
+shared-slice-read-value c = search needs
+
+add-point : tie.Need-add-point
+add-point c = search needs
+
+mul-point : tie.Need-mul-point
+mul-point c = search needs
+
+shared-slice-read-point : tie.Need-shared-slice-read-point
+shared-slice-read-point c = search needs
 
 returns-3 : tie.Need-returns-3
 returns-3 c = search limit-read
@@ -87,7 +96,10 @@ with-limit-spec =
     shared-slice-read-method-of-2
     method-of-requires
     start-count-requires
-    add-eps
-    mul-eps
-    shared-slice-read-eps
+    add-behind
+    mul-value
+    shared-slice-read-value
+    add-point
+    mul-point
+    shared-slice-read-point
     returns-3)

@@ -6,8 +6,8 @@ use Rattle.record_text.proofs.record.put_rule.Tie as tie
 put-starts-requires : tie.Need-put-starts-requires
 put-starts-requires c κs = search needs
 
-put-double-requires : tie.Need-put-double-requires
-put-double-requires c κs = search needs
+put-two-requires : tie.Need-put-two-requires
+put-two-requires c κs = search needs
 
 put-decimal-requires : tie.Need-put-decimal-requires
 put-decimal-requires c κs = search needs
@@ -21,4 +21,4 @@ returns c = (search rule-put, search needs)
 pub put-rule-spec : {M : Type 1} → statement M
 put-rule-spec =
     tie.close
-    (tie.spec put-starts-requires put-double-requires put-decimal-requires same-length returns)
+    (tie.spec put-starts-requires put-two-requires put-decimal-requires same-length returns)

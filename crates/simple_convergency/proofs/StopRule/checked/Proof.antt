@@ -1,23 +1,25 @@
-use Rattle.numerical.specs.Choices.{choices}
-use Rattle.simple_convergency.specs.Stop.{checkedOf}
+use Rattle.simple_convergency.specs.StopLaws.{value-bad, point-bad, tolerance-refused, limit-refused, rule-given}
 use borrow.Author.Needs.{needs}
 use Rattle.simple_convergency.proofs.StopRule.checked.Statement.{statement}
 use Rattle.simple_convergency.proofs.StopRule.checked.Tie as tie
 
-is-bad-eps-requires : tie.Need-is-bad-eps-requires
-is-bad-eps-requires c κs = search needs
+is-bad-tolerance-requires : tie.Need-is-bad-tolerance-requires
+is-bad-tolerance-requires c κs = search needs
 
 returns : tie.Need-returns
-unfolding checkedOf
-returns c = search choices
+returns c = search (tolerance-refused, value-bad, point-bad)
+
+is-bad-tolerance-requires-2 : tie.Need-is-bad-tolerance-requires-2
+is-bad-tolerance-requires-2 c κs = search needs
 
 returns-2 : tie.Need-returns-2
-unfolding checkedOf
-returns-2 c = search choices
+returns-2 c = search (tolerance-refused, value-bad, point-bad)
 
 returns-3 : tie.Need-returns-3
-unfolding checkedOf
-returns-3 c = search choices
+returns-3 c = search limit-refused
+
+returns-4 : tie.Need-returns-4
+returns-4 c = search rule-given
 
 pub checked-spec : {M : Type 1} → statement M
-checked-spec = tie.close (tie.spec is-bad-eps-requires returns returns-2 returns-3)
+checked-spec = tie.close (tie.spec is-bad-tolerance-requires returns is-bad-tolerance-requires-2 returns-2 returns-3 returns-4)
