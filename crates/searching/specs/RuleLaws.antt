@@ -49,4 +49,4 @@ module _ {j k : ℕ} {p : Progress} (r : Room j p) where
   room_alike a b h e = room_ruled r 1 (product_departs a b) h (ap (λ (w : Decided). w.progress) e)
 
 -- for `search`, with the ruleset `room`
-pub ruleset rules-room = (room_placed, room_alike)
+pub ruleset rules_room = (room_placed, room_alike)

@@ -1,4 +1,4 @@
-use Rattle.searching.specs.RuleLaws.{rules-room}
+use Rattle.searching.specs.RuleLaws.{rules_room}
 use Rattle.searching.specs.StepLaws.{steps}
 use Rattle.brent.specs.Brent.{pulled_in}
 use borrow.Author.Rules.{rules}
@@ -9,7 +9,7 @@ pull-requires : tie.Need-pull-requires
 pull-requires c κs = search rules
 
 landed-requires : tie.Need-landed-requires
-landed-requires c κs = search (rules, rules-room)
+landed-requires c κs = search (rules, rules_room)
 
 returns : tie.Need-returns
 unfolding pulled_in

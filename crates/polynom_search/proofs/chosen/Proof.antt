@@ -1,4 +1,4 @@
-use Rattle.searching.specs.RuleLaws.{rules-room}
+use Rattle.searching.specs.RuleLaws.{rules_room}
 use Rattle.polynom_search.specs.TurnLaws.{by_begin_replaced, by_end_replaced}
 use borrow.Author.Rules.{rules}
 use Rattle.polynom_search.proofs.chosen.Statement.{statement}
@@ -8,13 +8,13 @@ alike-requires : tie.Need-alike-requires
 alike-requires c κs = search rules
 
 stepped-requires : tie.Need-stepped-requires
-stepped-requires c κs = search (rules, rules-room)
+stepped-requires c κs = search (rules, rules_room)
 
 goes-on-requires : tie.Need-goes-on-requires
 goes-on-requires c κs = search rules
 
 stepped-requires-2 : tie.Need-stepped-requires-2
-stepped-requires-2 c κs = search (rules, rules-room)
+stepped-requires-2 c κs = search (rules, rules_room)
 
 goes-on-requires-2 : tie.Need-goes-on-requires-2
 goes-on-requires-2 c κs = search rules
