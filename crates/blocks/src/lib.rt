@@ -1,4 +1,7 @@
 // A block of input whose last bytes are kept for the next one.
+
+#![tactic(auto)]
+
 ghost use Rattle.std.specs.Prelude.{◌+◌, ◌≤◌, drop, length, take, ◌++◌, ◌≡◌};
 ghost use Rattle.blocks.specs.Blocks.{part_length, part_of};
 

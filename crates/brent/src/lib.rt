@@ -1,4 +1,7 @@
 // Brent's method over lent coefficients.
+
+#![tactic(auto)]
+
 ghost use Rattle.std.specs.Prelude.{◌≡◌, List, ◌≤◌, Float};
 ghost use Rattle.numerical.specs.Tallies.{Room};
 ghost use Rattle.simple_convergency.specs.Stop.{greatest_limit};
@@ -13,14 +16,14 @@ use searching::Decided;
 use simple_convergency::StopRule;
 
 // Two samples, the larger in size first.
-#[derive(Drop)]
+#[derive(Clone, Copy)]
 pub struct Arranged {
     pub a: Sample,
     pub b: Sample,
 }
 
 // The pair a and b, the b before as c, the point before that as d, and whether the last step was a bisection.
-#[derive(Drop)]
+#[derive(Clone, Copy)]
 pub struct Brent {
     pub a: Sample,
     pub b: Sample,
@@ -30,14 +33,14 @@ pub struct Brent {
 }
 
 // Where a turn leads: to the search's end, or to the next state.
-#[derive(Drop)]
+#[derive(Clone, Copy)]
 pub enum To {
     Ended(Answer),
     Next(Brent),
 }
 
 // A turn of the search, with what the run has done after it.
-#[derive(Drop)]
+#[derive(Clone, Copy)]
 pub struct Turn {
     pub to: To,
     pub progress: Progress,

@@ -1,4 +1,7 @@
 // Doubles: their bit patterns, which are finite, their size, signs and order, and a point pulled into a pair.
+
+#![tactic(auto)]
+
 ghost use Rattle.std.specs.Prelude.{◌≡◌};
 ghost use Rattle.std.specs.Float.{binary64};
 ghost use Rattle.std.specs.Float.Ieee.{of_bits, to_bits};

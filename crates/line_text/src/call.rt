@@ -8,7 +8,7 @@ use roots::Method;
 use simple_convergency::Tolerances;
 
 // Why a line is not a call.
-#[derive(Drop)]
+#[derive(Clone, Copy)]
 pub enum Fault {
     Empty,
     Method,
@@ -19,7 +19,7 @@ pub enum Fault {
 }
 
 // A call, but for its coefficients: those are the first `count` doubles of an array beside it.
-#[derive(Drop)]
+#[derive(Clone, Copy)]
 pub struct Call {
     pub method: Method,
     pub count: usize,
@@ -27,14 +27,14 @@ pub struct Call {
     pub limit: u64,
 }
 
-#[derive(Drop)]
+#[derive(Clone, Copy)]
 pub enum Reading {
     Call(Call),
     Wrong(Fault),
 }
 
 // Where the doubles end, if each is one.
-#[derive(Drop)]
+#[derive(Clone, Copy)]
 pub enum Place {
     At(usize),
     Wrong,

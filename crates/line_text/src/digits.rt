@@ -3,7 +3,7 @@ ghost use Rattle.std.specs.Prelude.{◌≡◌, ◌≤◌};
 ghost use Rattle.line_text.specs.Digits.{digit_of, number_of, decimal_of, word_of};
 
 // What digits stand for, if they are digits and a u64 holds it.
-#[derive(Drop)]
+#[derive(Clone, Copy)]
 pub enum Number {
     Is(u64),
     Wrong,

@@ -5,7 +5,7 @@ ghost use Rattle.line_text.specs.Inputs.{Fine, Taken, Fed, stops_at};
 use crate::reply;
 
 // Where things stand between two bytes.
-#[derive(Drop)]
+#[derive(Clone, Copy)]
 pub struct State {
     // How many bytes of the present line are kept, and whether there were more than can be.
     pub kept: usize,
@@ -15,7 +15,7 @@ pub struct State {
 }
 
 // Where a block was left.
-#[derive(Drop)]
+#[derive(Clone, Copy)]
 pub struct Pause {
     pub at: usize,
     pub state: State,

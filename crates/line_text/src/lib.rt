@@ -8,6 +8,9 @@
 // Out: KIND NUMBERS.. STEPS VALUES DERIVATIVES MARK. KIND is 0 by value, with the root and its value, 1 by width, with the
 // root and two points, otherwise 10 plus the refusal's number. What is not a call gets `error` and the first fault of
 // empty, method, count, number, limit, trailing; a line that outgrew its buffer gets `error too long`.
+
+#![tactic(auto)]
+
 pub mod call;
 pub mod digits;
 pub mod fields;

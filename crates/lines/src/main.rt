@@ -1,11 +1,14 @@
 // Answers calls of the searches, one a line of up to 1,024 bytes. The crate line_text says how lines are written.
+
+#![tactic(auto)]
+
 ghost use Rattle.line_text.specs.Inputs.{Idle, Begun};
 
 use libc::{STDIN_FILENO, STDOUT_FILENO};
 use line_text::input::State;
 
 // Where things stand between two blocks, and whether to go on.
-#[derive(Drop)]
+#[derive(Clone, Copy)]
 struct Turn {
     state: State,
     is_open: bool,

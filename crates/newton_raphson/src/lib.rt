@@ -1,4 +1,7 @@
 // Newton's method over lent coefficients.
+
+#![tactic(auto)]
+
 ghost use Rattle.std.specs.Prelude.{◌≡◌, List, ◌≤◌, Float};
 ghost use Rattle.numerical.specs.Tallies.{Room};
 ghost use Rattle.numerical.specs.declared.Answer.TheVariants.{ByValue};
@@ -12,21 +15,21 @@ use polynom::{EvaluatedBoth, ValueAndDerivative};
 use simple_convergency::StopRule;
 
 // Where the search stands, and whether the step that led there was the nudge: first, where an answer has its kind, so that x lies where a root does.
-#[derive(Drop)]
+#[derive(Clone, Copy)]
 pub struct Spot {
     pub nudged: bool,
     pub x: f64,
 }
 
 // Where a turn leads: to the search's end, or to the next spot.
-#[derive(Drop)]
+#[derive(Clone, Copy)]
 pub enum To {
     Ended(Answer),
     Next(Spot),
 }
 
 // A turn of the search, with what the run has done after it.
-#[derive(Drop)]
+#[derive(Clone, Copy)]
 pub struct Turn {
     pub to: To,
     pub progress: Progress,

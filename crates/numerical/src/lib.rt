@@ -1,34 +1,37 @@
 // Samples, intervals, tallies, the mark and the answer of a search.
+
+#![tactic(auto)]
+
 ghost use Rattle.std.specs.Prelude.{◌≡◌};
 ghost use Rattle.numerical.specs.Tallies.{fresh, valued_of, sloped_of, stepped_of, ruled_of, Room};
 ghost use Rattle.numerical.specs.Answers.{counts_of, kind_of, numbers_of, padded, refused_at_once};
 ghost use Rattle.numerical.specs.Middle.{at_least, at_most, crosses, middle_of};
 
 // A point and the computed value there.
-#[derive(Drop)]
+#[derive(Clone, Copy)]
 pub struct Sample {
     pub x: f64,
     pub y: f64,
 }
 
 // The pair between two samples, these included.
-#[derive(Drop)]
+#[derive(Clone, Copy)]
 pub struct Interval {
     pub begin: Sample,
     pub end: Sample,
 }
 
 // Steps and evaluations are separate tallies: each has a type of its own.
-#[derive(Drop)]
+#[derive(Clone, Copy)]
 pub struct Steps(pub u64);
 
-#[derive(Drop)]
+#[derive(Clone, Copy)]
 pub struct Values(pub u64);
 
-#[derive(Drop)]
+#[derive(Clone, Copy)]
 pub struct Derivatives(pub u64);
 
-#[derive(Drop)]
+#[derive(Clone, Copy)]
 pub struct Tally {
     pub steps: Steps,
     pub values: Values,
@@ -36,13 +39,13 @@ pub struct Tally {
 }
 
 // What a run has done so far: its tallies and its mark.
-#[derive(Drop)]
+#[derive(Clone, Copy)]
 pub struct Progress {
     pub tally: Tally,
     pub mark: u8,
 }
 
-#[derive(Drop)]
+#[derive(Clone, Copy)]
 pub enum Answer {
     // The root and its computed value.
     ByValue { root: f64, value: f64 },
@@ -52,7 +55,7 @@ pub enum Answer {
     Refused(u8),
 }
 
-#[derive(Drop)]
+#[derive(Clone, Copy)]
 pub struct Outcome {
     pub answer: Answer,
     pub progress: Progress,

@@ -1,4 +1,7 @@
 // Records played back: each call is run again, and its answer compared with the one on record.
+
+#![tactic(auto)]
+
 ghost use Rattle.std.specs.Prelude.{◌≤◌, take, ◌≡◌};
 ghost use Rattle.numerical.specs.Answers.{numbers_of, padded};
 ghost use Rattle.records.specs.Records.{bits_of};
@@ -12,7 +15,7 @@ use roots::Method;
 use simple_convergency::Tolerances;
 
 // The fields of an answer, in record order: its kind, its numbers, the tallies and the mark.
-#[derive(Drop)]
+#[derive(Clone, Copy)]
 pub enum Field {
     Kind,
     First,
@@ -59,7 +62,7 @@ impl Field {
 }
 
 // What the answer on record and the present one hold of the first field that differs: a double by its bits.
-#[derive(Drop)]
+#[derive(Clone, Copy)]
 pub enum Comparison {
     Same,
     Differs {
@@ -70,7 +73,7 @@ pub enum Comparison {
 }
 
 // How many records agree before the first that does not, and at which byte that one begins.
-#[derive(Drop)]
+#[derive(Clone, Copy)]
 pub enum Playback {
     Agree {
         records: usize,

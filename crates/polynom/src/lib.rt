@@ -1,4 +1,7 @@
 // The polynomial x^n + a[0]x^(n-1) + .. + a[n-1] over lent coefficients: its value, its derivative, and evaluation with a check.
+
+#![tactic(auto)]
+
 ghost use Rattle.std.specs.Prelude.{◌≡◌, ◌<◌, ◌+◌, length, drop};
 ghost use Rattle.polynom.specs.Polynom.{sums, value, value_and_derivative, sample_if_finite, evaluated, both_if_finite, evaluated_both};
 ghost use Rattle.polynom.specs.Terms.{Passed};
@@ -6,34 +9,34 @@ ghost use Rattle.polynom.specs.Terms.{Passed};
 use numerical::Sample;
 
 // The sum so far, and the next power of x.
-#[derive(Drop)]
+#[derive(Clone, Copy)]
 pub struct Sum {
     pub result: f64,
     pub xn: f64,
 }
 
 // The sum of the coefficients from `left` on, an even number.
-#[derive(Drop)]
+#[derive(Clone, Copy)]
 pub struct Summed {
     pub sum: Sum,
     pub left: usize,
 }
 
-#[derive(Drop)]
+#[derive(Clone, Copy)]
 pub struct ValueAndDerivative {
     pub value: Sample,
     pub derivative: f64,
 }
 
 // A sample, or that its value is not finite.
-#[derive(Drop)]
+#[derive(Clone, Copy)]
 pub enum Evaluated {
     At(Sample),
     NotFinite,
 }
 
 // A sample with its derivative, or that one of the two is not finite.
-#[derive(Drop)]
+#[derive(Clone, Copy)]
 pub enum EvaluatedBoth {
     Both(ValueAndDerivative),
     NotBothFinite,

@@ -1,4 +1,7 @@
 // The polynomial search over lent coefficients: a pair narrowed by its middle and by Newton's point from there.
+
+#![tactic(auto)]
+
 ghost use Rattle.std.specs.Prelude.{◌≡◌, List, ◌≤◌, Float};
 ghost use Rattle.numerical.specs.Tallies.{Room};
 ghost use Rattle.numerical.specs.declared.Answer.TheVariants.{ByValue};
@@ -14,21 +17,21 @@ use searching::Placed;
 use simple_convergency::StopRule;
 
 // Where a turn leads: to the search's end, or to the next pair.
-#[derive(Drop)]
+#[derive(Clone, Copy)]
 pub enum To {
     Ended(Answer),
     Next(Interval),
 }
 
 // `middle` in the pair, with what the run has done before it is used, or that it is not finite.
-#[derive(Drop)]
+#[derive(Clone, Copy)]
 pub enum Middle {
     In(Placed),
     NotFinite,
 }
 
 // A turn of the search, with what the run has done after it.
-#[derive(Drop)]
+#[derive(Clone, Copy)]
 pub struct Turn {
     pub to: To,
     pub progress: Progress,

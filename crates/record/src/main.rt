@@ -1,6 +1,9 @@
 // Answers call lines with the bytes of their records, one a line of up to 1,024 bytes. The crate line_text says how calls are
 // written; the reply is the record of the call and its answer as hexadecimal digits, `refused` and the refusal's number
 // where the call is refused before any evaluation, or what the line tool says of a line that is no call.
+
+#![tactic(auto)]
+
 ghost use Rattle.std.specs.Prelude.{◌≡◌, ◌≤◌, length};
 ghost use Rattle.record_text.specs.RecordTexts.{longest_reply};
 ghost use Rattle.line_text.specs.Inputs.{Begun, line_of, next_line};
@@ -9,7 +12,7 @@ use libc::{STDIN_FILENO, STDOUT_FILENO};
 use line_text::input::State;
 
 // Where things stand, and whether to go on. No reply ever waits: each is written at once.
-#[derive(Drop)]
+#[derive(Clone, Copy)]
 struct Turn {
     state: State,
     is_open: bool,

@@ -12,7 +12,7 @@ use roots::Method;
 use simple_convergency::{StopRule, Tolerances};
 
 // Where a record's line ends, and how many bytes the record took: none where it was refused.
-#[derive(Drop)]
+#[derive(Clone, Copy)]
 pub struct Shown {
     pub end: usize,
     pub taken: usize,

@@ -1,4 +1,7 @@
 // A record of a search: its call and its answer as a row of numbers, written into bytes and read from them.
+
+#![tactic(auto)]
+
 ghost use Rattle.std.specs.Prelude.{◌*◌, ◌+◌, ◌≤◌, drop, length, take, [], ◌++◌, ◌∷◌, ◌≡◌};
 ghost use Rattle.records.specs.Parts.{AnswerTook, CallTook, DoubleTook, Filled, HeadTook, ProgressTook, RuleTook, TolerancesTook, TookIf, whole_of};
 ghost use Rattle.records.specs.Records.{answer_row, between, bits_of, blank, call_row, head_row, holds_both, is_double, is_kind, is_tolerance, left_by, no_record, numbers_for, progress_row, reading_of, row_of, rule_row, tolerances_row, written_to};
@@ -13,7 +16,7 @@ use simple_convergency::{StopRule, Tolerances};
 
 // What a record holds: its kind, which says how it is laid out, a call with its own copy of the coefficients, of which the
 // first `count` are its own, and its answer.
-#[derive(Drop)]
+#[derive(Clone, Copy)]
 pub struct Record {
     pub kind: u64,
     pub coefficients: [f64; 16],
@@ -33,14 +36,14 @@ impl Record {
 }
 
 // How many bytes a record takes, or the number of a refusal.
-#[derive(Drop)]
+#[derive(Clone, Copy)]
 pub enum Verdict {
     Bytes(usize),
     Refused(u8),
 }
 
 // What was read. Beside a refusal stands a record of zeros.
-#[derive(Drop)]
+#[derive(Clone, Copy)]
 pub struct Reading {
     pub verdict: Verdict,
     pub content: Record,
@@ -48,31 +51,31 @@ pub struct Reading {
 
 // ---- reading: each part tells what it holds and where the next one begins
 
-#[derive(Drop)]
+#[derive(Clone, Copy)]
 enum TakenDouble {
     Is { x: f64, next: usize },
     Wrong,
 }
 
-#[derive(Drop)]
+#[derive(Clone, Copy)]
 enum Place {
     At(usize),
     Wrong,
 }
 
-#[derive(Drop)]
+#[derive(Clone, Copy)]
 enum HeadRead {
     Is { kind: u64, method: u64, next: usize },
     Wrong,
 }
 
-#[derive(Drop)]
+#[derive(Clone, Copy)]
 enum TolerancesRead {
     Is { tolerances: Tolerances, next: usize },
     Wrong,
 }
 
-#[derive(Drop)]
+#[derive(Clone, Copy)]
 enum RuleRead {
     Is {
         method: Method,
@@ -83,7 +86,7 @@ enum RuleRead {
     Wrong,
 }
 
-#[derive(Drop)]
+#[derive(Clone, Copy)]
 enum CallRead {
     Is {
         kind: u64,
@@ -96,13 +99,13 @@ enum CallRead {
     Wrong,
 }
 
-#[derive(Drop)]
+#[derive(Clone, Copy)]
 enum AnswerRead {
     Is { answer: Answer, next: usize },
     Wrong,
 }
 
-#[derive(Drop)]
+#[derive(Clone, Copy)]
 enum ProgressRead {
     Is { progress: Progress, next: usize },
     Wrong,

@@ -1,4 +1,7 @@
 // The Illinois form of regula falsi over lent coefficients.
+
+#![tactic(auto)]
+
 ghost use Rattle.std.specs.Prelude.{◌≡◌, List, ◌≤◌, Float};
 ghost use Rattle.numerical.specs.Tallies.{Room};
 ghost use Rattle.numerical.specs.declared.Answer.TheVariants.{ByValue};
@@ -12,21 +15,21 @@ use polynom::Evaluated;
 use simple_convergency::StopRule;
 
 // An end of the pair: its sample, and the value that the chord is drawn with.
-#[derive(Drop)]
+#[derive(Clone, Copy)]
 pub struct End {
     pub at: Sample,
     pub weight: f64,
 }
 
 // Which end the step before replaced.
-#[derive(Drop)]
+#[derive(Clone, Copy)]
 pub enum Edge {
     EdgeX1,
     NoEdge,
     EdgeX2,
 }
 
-#[derive(Drop)]
+#[derive(Clone, Copy)]
 pub struct Illinois {
     pub left: End,
     pub right: End,
@@ -34,14 +37,14 @@ pub struct Illinois {
 }
 
 // Where a turn leads: to the search's end, or to the next state.
-#[derive(Drop)]
+#[derive(Clone, Copy)]
 pub enum To {
     Ended(Answer),
     Next(Illinois),
 }
 
 // A turn of the search, with what the run has done after it.
-#[derive(Drop)]
+#[derive(Clone, Copy)]
 pub struct Turn {
     pub to: To,
     pub progress: Progress,

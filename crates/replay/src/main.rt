@@ -1,6 +1,9 @@
 // Plays the records of the input back, and writes the verdict as a line: agree RECORDS, differs RECORDS OFFSET FIELD RECORDED
 // NOW or refused RECORDS OFFSET REFUSAL. FIELD is 1 to 8 in record order; a number of an answer stands by the 16 hexadecimal digits
 // of its bits. Where the input cannot be read nothing is written.
+
+#![tactic(auto)]
+
 ghost use Rattle.std.specs.Prelude.{◌+◌, ◌<◌, ◌≤◌, length, take, false, ◌≡◌};
 ghost use Rattle.line_text.specs.Texts.{Put};
 ghost use Rattle.records.specs.Records.{longest_record};
@@ -13,21 +16,21 @@ use playback::{Field, Playback};
 use records::Record;
 
 // How many records agree so far, and how many bytes they take.
-#[derive(Drop)]
+#[derive(Clone, Copy)]
 struct Reached {
     records: usize,
     offset: usize,
 }
 
 // Where a block leaves the playback: at the verdict, or open, with the bytes from an index on to be played with the next block.
-#[derive(Drop)]
+#[derive(Clone, Copy)]
 enum Course {
     Ended(Playback),
     Open { at: usize, reached: Reached },
 }
 
 // How many bytes at the front of the buffer wait for the next block, what is behind them, and whether to go on.
-#[derive(Drop)]
+#[derive(Clone, Copy)]
 struct Turn {
     kept: usize,
     reached: Reached,

@@ -1,4 +1,7 @@
 // The calls that a customer makes: one search over lent coefficients, and one for each method under its name in the Rust.
+
+#![tactic(auto)]
+
 ghost use Rattle.std.specs.Prelude.{◌≡◌, [], ◌∷◌, ◌≤◌};
 ghost use Rattle.simple_convergency.specs.Stop.{greatest_limit, one_eps, plain_limit};
 ghost use Rattle.roots.specs.Calls.{bad_count, all_finite, starts_of, found_by, answer};
@@ -8,7 +11,7 @@ use numerical::Outcome;
 use simple_convergency::{Checked, StopRule, Tolerances};
 
 // A method with its starts.
-#[derive(Drop)]
+#[derive(Clone, Copy)]
 pub enum Method {
     Brent { from: f64, to: f64 },
     RegulaFalsi { from: f64, to: f64 },

@@ -1,4 +1,7 @@
 // The search as C calls it: numbers and buffers go in, a kind comes back, and the buffers hold the rest.
+
+#![tactic(auto)]
+
 ghost use Rattle.std.specs.Prelude.{◌≤◌, length, take, ◌≡◌};
 ghost use Rattle.numerical.specs.Answers.{kind_of, numbers_of};
 ghost use Rattle.records.specs.Records.{progress_of, reading_of};
@@ -13,7 +16,7 @@ use roots::Method;
 use simple_convergency::Tolerances;
 
 // The method of a number, with its starts.
-#[derive(Drop)]
+#[derive(Clone, Copy)]
 pub enum Chosen {
     Known(Method),
     Unknown,

@@ -1,10 +1,13 @@
 // A number in groups of seven bits, lowest group first, top bit set when another follows; no needless last group.
+
+#![tactic(auto)]
+
 ghost use Rattle.std.specs.Prelude.{◌+◌, ◌<◌, ◌≤◌, length, ◌≡◌};
 ghost use Rattle.rows.specs.Groups.{Took, groups, tenth_at};
 ghost use Rattle.rows.specs.Puts.{Put};
 
 // The number that stands at an index, and where it ends.
-#[derive(Drop)]
+#[derive(Clone, Copy)]
 pub enum Taken {
     Is { n: u64, next: usize },
     Wrong,

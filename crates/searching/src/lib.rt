@@ -1,18 +1,21 @@
 // The language of searches has definitions and laws, in specs/. The functions are the two added rules that several methods follow.
+
+#![tactic(auto)]
+
 ghost use Rattle.std.specs.Prelude.{◌≡◌};
 ghost use Rattle.searching.specs.Rules.{placed_in, alike_by, in_order};
 
 use numerical::{Progress, Sample};
 
 // A point in the pair, and what the run has done before it is used.
-#[derive(Drop)]
+#[derive(Clone, Copy)]
 pub struct Placed {
     pub x: f64,
     pub progress: Progress,
 }
 
 // What a test of signs decided, and what the run has done after it.
-#[derive(Drop)]
+#[derive(Clone, Copy)]
 pub struct Decided {
     pub decision: bool,
     pub progress: Progress,
@@ -45,7 +48,7 @@ pub fn alike(p: Sample, q: Sample, progress: Progress) -> Decided
 }
 
 // Two starts in order.
-#[derive(Drop)]
+#[derive(Clone, Copy)]
 pub struct Starts {
     pub first: f64,
     pub second: f64,

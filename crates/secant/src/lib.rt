@@ -1,4 +1,7 @@
 // The secant method over lent coefficients.
+
+#![tactic(auto)]
+
 ghost use Rattle.std.specs.Prelude.{◌≡◌, List, ◌≤◌, Float};
 ghost use Rattle.numerical.specs.Tallies.{Room};
 ghost use Rattle.numerical.specs.declared.Answer.TheVariants.{ByValue};
@@ -12,21 +15,21 @@ use polynom::Evaluated;
 use simple_convergency::StopRule;
 
 // The two last points.
-#[derive(Drop)]
+#[derive(Clone, Copy)]
 pub struct Secant {
     pub first: Sample,
     pub second: Sample,
 }
 
 // Where a turn leads: to the search's end, or to the next state.
-#[derive(Drop)]
+#[derive(Clone, Copy)]
 pub enum To {
     Ended(Answer),
     Next(Secant),
 }
 
 // A turn of the search, with what the run has done after it.
-#[derive(Drop)]
+#[derive(Clone, Copy)]
 pub struct Turn {
     pub to: To,
     pub progress: Progress,

@@ -1,5 +1,8 @@
 // Shows the records of the input, each as a line: LENGTH RECORD_KIND METHOD COUNT A0 .. START [START] VALUE_TOLERANCE
 // POINT_TOLERANCE LIMIT KIND NUMBERS.. STEPS VALUES DERIVATIVES MARK. Where the rest is no record the last line is `refused 11`.
+
+#![tactic(auto)]
+
 ghost use Rattle.std.specs.Prelude.{true, ◌≡◌, ◌+◌, ◌-◌, ◌≤◌, ◌<◌, length, take, drop};
 ghost use Rattle.record_text.specs.RecordTexts.{longest_line};
 ghost use Rattle.records.specs.Records.{longest_record};
@@ -10,7 +13,7 @@ use record_text::record::LONGEST_LINE;
 use records::Record;
 
 // Up to which byte a part of a block is shown, how many bytes of lines wait, and whether each was of a record.
-#[derive(Drop)]
+#[derive(Clone, Copy)]
 struct Pause {
     at: usize,
     waiting: usize,
@@ -18,14 +21,14 @@ struct Pause {
 }
 
 // Up to which byte a block is shown, and whether to go on.
-#[derive(Drop)]
+#[derive(Clone, Copy)]
 struct Reached {
     at: usize,
     is_open: bool,
 }
 
 // How many bytes at the front of the buffer are left to be shown, and whether to go on.
-#[derive(Drop)]
+#[derive(Clone, Copy)]
 struct Turn {
     kept: usize,
     is_open: bool,

@@ -1,23 +1,26 @@
 // The stop rule: how close is close enough, and how many steps a search may take.
+
+#![tactic(auto)]
+
 ghost use Rattle.std.specs.Prelude.{◌≡◌};
 ghost use Rattle.simple_convergency.specs.Stop.{bad_tolerance, one_eps, checked_of, found_at, flat_at, converged_at, turns_of};
 
 // How close to zero a value must be, and how close to each other two points must be.
-#[derive(Drop)]
+#[derive(Clone, Copy)]
 pub struct Tolerances {
     pub value: f64,
     pub point: f64,
 }
 
 // The two tolerances, and the greatest number of steps.
-#[derive(Drop)]
+#[derive(Clone, Copy)]
 pub struct StopRule {
     pub tolerances: Tolerances,
     pub limit: u64,
 }
 
 // A rule that passed its check, or the refusal's number.
-#[derive(Drop)]
+#[derive(Clone, Copy)]
 pub enum Checked {
     Rule(StopRule),
     Refused(u8),

@@ -1,4 +1,7 @@
 // The smallest method: a walk by steps of 1 until a value is found. It is no part of the product: it shows the laws of searches in use.
+
+#![tactic(auto)]
+
 ghost use Rattle.std.specs.Prelude.{◌≡◌, List, ◌≤◌, Float};
 ghost use Rattle.numerical.specs.Tallies.{Room};
 ghost use Rattle.simple_convergency.specs.Stop.{greatest_limit};
@@ -11,14 +14,14 @@ use polynom::Evaluated;
 use simple_convergency::StopRule;
 
 // Where a turn leads: to the walk's end, or to the next point.
-#[derive(Drop)]
+#[derive(Clone, Copy)]
 pub enum To {
     Ended(Answer),
     Next(f64),
 }
 
 // A turn of the walk, with what the run has done after it.
-#[derive(Drop)]
+#[derive(Clone, Copy)]
 pub struct Turn {
     pub to: To,
     pub progress: Progress,
