@@ -137,6 +137,8 @@ le_nums (fin s m e) (fin t n d) h = (tt, tt)
 pub finite_num : (x : Float) → T (finite x) → Num x
 unfolding is_nan
 finite_num (fin s m e) h = tt
+finite_num nan h = elim h [ ]
+finite_num (inf _) h = elim h [ ]
 
 le_not_lt : (x y : Float) → Num x → Num y → le x y ≡ not (lt y x)
 unfolding le is_nan
@@ -162,6 +164,15 @@ unfolding eq lt
 eq_not_lt (inf true) (inf true) h = tt
 eq_not_lt (inf false) (inf false) h = tt
 eq_not_lt (fin s m e) (fin t n d) h = level_not_below s t (m * up e * down d) (n * up d * down e) h
+eq_not_lt nan y h = elim h [ ]
+eq_not_lt (inf false) nan h = elim h [ ]
+eq_not_lt (inf false) (inf true) h = elim h [ ]
+eq_not_lt (inf false) (fin t n d) h = elim h [ ]
+eq_not_lt (inf true) nan h = elim h [ ]
+eq_not_lt (inf true) (inf false) h = elim h [ ]
+eq_not_lt (inf true) (fin t n d) h = elim h [ ]
+eq_not_lt (fin s m e) nan h = elim h [ ]
+eq_not_lt (fin s m e) (inf _) h = elim h [ ]
 
 -- Two numbers are equal where each is at most the other.
 pub eq_both : (x y : Float) → Num x → Num y → T (eq x y) ↔ T (le x y) × T (le y x)
@@ -204,6 +215,16 @@ lt_split (fin s m e) (inf false) z n h = inl tt
 lt_split (inf true) (fin t q d) z n h = inl tt
 lt_split (fin s m e) (fin t q d) (inf false) n h = inr tt
 lt_split (fin s m e) (fin t q d) (fin u p g) n h = finite_split s t u (m * up e) (down e) (q * up d) (down d) (p * up g) (down g) (down_pos e) (down_pos d) (down_pos g) h
+lt_split nan y z n h = elim h [ ]
+lt_split (inf false) y nan n h = elim h [ ]
+lt_split (inf true) nan z n h = elim n [ ]
+lt_split (inf true) (inf true) nan n h = elim h [ ]
+lt_split (inf true) (inf true) (inf true) n h = elim h [ ]
+lt_split (fin s m e) nan z n h = elim n [ ]
+lt_split (fin s m e) (inf true) nan n h = elim h [ ]
+lt_split (fin s m e) (inf true) (inf true) n h = elim h [ ]
+lt_split (fin s m e) (fin t q d) nan n h = elim h [ ]
+lt_split (fin s m e) (fin t q d) (inf true) n h = elim h [ ]
 
 -- `le` is reflexive on numbers.
 pub le_refl : (x : Float) → Num x → T (le x x)

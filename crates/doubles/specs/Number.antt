@@ -195,6 +195,10 @@ by_numbers (fin s m e) (fin t n d) _ _ p q =
     ∙ below_like s t (many m e) (many n d) (code (many m e)) (code (many n d)) (code_like s m e t n d p q)
     ∙ below_signed s t (code (many m e)) (code (many n d))
     ∙ rw (order_fin s m e p, order_fin t n d q)
+by_numbers nan y x5 _ p q = elim x5 [ ]
+by_numbers (inf _) y x7 _ p q = elim x7 [ ]
+by_numbers (fin s m e) nan _ x12 p q = elim x12 [ ]
+by_numbers (fin s m e) (inf _) _ x14 p q = elim x14 [ ]
 
 le_z_not_lt_z : (a b : ℤ) → le_z a b ≡ not (lt_z b a)
 le_z_not_lt_z (pos a) (pos b) = leb_not_ltb a b
@@ -216,6 +220,8 @@ le_order x y d e = let w = le_le_z x y d e in (λ h. record { le = of_true (le_z
 le_z_antisym : (a b : ℤ) → T (le_z a b) → T (le_z b a) → a ≡ b
 le_z_antisym (pos a) (pos b) h k = ap pos (le_antisymm (leb→le a b h) (leb→le b a k))
 le_z_antisym (negsuc a) (negsuc b) h k = ap negsuc (le_antisymm (leb→le a b k) (leb→le b a h))
+le_z_antisym (pos a) (negsuc b) h k = elim h [ ]
+le_z_antisym (negsuc a) (pos b) h k = elim k [ ]
 
 -- Finite doubles are equal just when their order numbers are.
 pub eq_order : (x y : Float) → Double x → Double y → (eq x y ≡ true) ↔ (order_of x ≡ order_of y)

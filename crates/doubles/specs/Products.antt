@@ -54,6 +54,8 @@ beq_eq false false h = refl
 -- the sign of a value
 valued_side : (u : Bool) (x : Float) (s : Bool) (a c : ℕ) → HasValue x s a c → T (stands u x) → u ≡ s
 valued_side u (fin t m e) s a c v h = beq_eq u t (and_l (beq u t) (ltb 0 m) h) ∙ v.0
+valued_side u nan s a c v h = elim v [ ]
+valued_side u (inf _) s a c v h = elim v [ ]
 
 units_side : (f : Format) (u s : Bool) (q k : ℕ) → T (stands u (units f s q k)) → u ≡ s
 unfolding units
@@ -69,6 +71,8 @@ round_side f u s a c h = units_side f u s _ _ h
 
 nothing : (u : Bool) (x : Float) (s : Bool) (c : ℕ) → 0 < c → HasValue x s 0 c → T (stands u x) → ⊥
 nothing u (fin t m e) s c C v h = lt_irrefl 0 (subst (λ (k : ℕ). 0 < k) (v.1 ∙ zero-mul (down e)) (mul-pos (mul-pos (ltb→lt 0 m (and_r (beq u t) (ltb 0 m) h)) (up_pos e)) C))
+nothing u nan s c C v h = elim v [ ]
+nothing u (inf _) s c C v h = elim v [ ]
 
 zero_stays : (f : Format) (s : Bool) (c : ℕ) → 0 < c → HasValue (round f s 0 c) s 0 c
 zero_stays f s c C = round_exact f s 0 c 0 0 C (pow_pos (prec f)) (pow_pos (low f + suc (emax f))) (zero-mul (2 ^ low f) ∙ sym (zero-mul c))
@@ -115,6 +119,9 @@ factors f u (fin s m e) (fin t n d) h =
       first_stands = finite_stands s m e (first_pos m (up e) (first_pos (m * up e) (n * up d) both));
       second_stands = finite_stands t n d (first_pos n (up d) (first_pos (n * up d) (m * up e) (subst (λ (k : ℕ). 0 < k) (mul_comm (m * up e) (n * up d)) both)));
     }
+factors f u nan y h = elim h [ ]
+factors f u (inf s) nan h = elim h [ ]
+factors f u (fin s m e) nan h = elim h [ ]
 
 -- ---- what a product tells
 
@@ -124,6 +131,9 @@ not_above x h = above_is x ∙ go x h
     go : (x : Float) → T (stands true x) → stands false x ≡ false
     go (inf true) k = refl
     go (fin true m e) k = refl
+    go nan k = elim k [ ]
+    go (inf false) k = elim k [ ]
+    go (fin false m e) k = elim k [ ]
 
 pub not_below : (x : Float) → T (stands false x) → below x ≡ false
 not_below x h = below_is x ∙ go x h
@@ -131,6 +141,9 @@ not_below x h = below_is x ∙ go x h
     go : (x : Float) → T (stands false x) → stands true x ≡ false
     go (inf false) k = refl
     go (fin false m e) k = refl
+    go nan k = elim k [ ]
+    go (inf true) k = elim k [ ]
+    go (fin true m e) k = elim k [ ]
 
 pub is_above : (x : Float) → T (stands false x) → above x ≡ true
 is_above x h = above_is x ∙ is_true (stands false x) h

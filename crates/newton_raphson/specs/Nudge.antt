@@ -75,6 +75,8 @@ plus_one : (x : Float) → T (finite x) → T (le (neg largest) x) → T (le x l
 unfolding lt neg of_bits of_fields odd
 plus_one (fin true m e) f g h = size_plus_one true m e (le_no_lt (neg largest) (fin true m e) g)
 plus_one (fin false m e) f g h = size_plus_one false m e (le_no_lt (fin false m e) largest h)
+plus_one nan f g h = elim f [ ]
+plus_one (inf _) f g h = elim f [ ]
 
 -- A finite double plus 1 is finite.
 pub plus_one_finite : (x : Float) → Double x → finite (add binary64 x one) ≡ true

@@ -39,6 +39,10 @@ between_finite (fin s m e) (fin t n d) nan p q h k = absurd h
 between_finite (fin s m e) (fin t n d) (inf true) p q h k = absurd h
 between_finite (fin s m e) (fin t n d) (inf false) p q h k = absurd k
 between_finite (fin s m e) (fin t n d) (fin r j c) p q h k = tt
+between_finite nan v _ p q h k = elim p [ ]
+between_finite (inf _) v _ p q h k = elim p [ ]
+between_finite (fin s m e) nan _ p q h k = elim q [ ]
+between_finite (fin s m e) (inf _) _ p q h k = elim q [ ]
 
 -- a middle that is finite is a double
 middle_double : (i : Interval) → finite (middle_of i) ≡ true → Double (middle_of i)

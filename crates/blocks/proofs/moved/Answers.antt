@@ -1,0 +1,13 @@
+use borrow.Author.Rules.{rules}
+use Prim.Native.Nat.{◌-◌}
+use Rattle.blocks.specs.BlockLaws.{Moving, move_starts, move_on, move_done}
+use Rattle.blocks.proofs.moved.Goals as goal
+
+pub loop-i-init : goal.loop-i-init
+loop-i-init c = search (move_starts, rules)
+
+pub loop-i-preserved : goal.loop-i-preserved
+loop-i-preserved c = search move_on
+
+pub returns : goal.returns
+returns c = search move_done

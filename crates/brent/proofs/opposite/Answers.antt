@@ -1,0 +1,8 @@
+use Rattle.searching.specs.RuleLaws.{unequal_differ}
+use Rattle.brent.specs.Brent.{step_departs}
+use borrow.Author.Rules.{rules}
+use Rattle.brent.proofs.opposite.Goals as goal
+
+pub returns : goal.returns
+unfolding step_departs
+returns c = rw (c.ruled.ensures, ← c.opposite_sign-unlike.ensures, ← c.is_below-below.ensures, ← unequal_differ)

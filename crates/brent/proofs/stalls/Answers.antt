@@ -1,0 +1,12 @@
+use Rattle.numerical.specs.Choices.{choices}
+use Rattle.brent.specs.Brent.{stalls}
+use borrow.Author.Rules.{rules}
+use Rattle.brent.proofs.stalls.Goals as goal
+
+pub returns-then-too_slow : goal.returns-then-too_slow
+unfolding stalls
+returns-then-too_slow c = search choices
+
+pub returns-else-too_slow : goal.returns-else-too_slow
+unfolding stalls
+returns-else-too_slow c = search choices

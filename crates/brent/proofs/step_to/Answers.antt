@@ -1,0 +1,10 @@
+use Rattle.searching.specs.StepLaws.{by_narrow_to}
+use Rattle.brent.specs.BrentLaws.{moved_larger, moved_not_larger}
+use borrow.Author.Rules.{rules}
+use Rattle.brent.proofs.step_to.Goals as goal
+
+pub returns-then-abs : goal.returns-then-abs
+returns-then-abs c = λ cs. search (by_narrow_to, moved_larger)
+
+pub returns : goal.returns
+returns c = λ cs. search (by_narrow_to, moved_not_larger)

@@ -1,0 +1,7 @@
+-- `doubles::is_outside` meets its contract. Assumes nothing.
+use borrow.Author.Rules.{rules}
+use Rattle.doubles.specs.Pairs.{outside_beyond}
+use Rattle.doubles.proofs.is_outside.Goals as goal
+
+pub returns : goal.returns
+returns c = rw (c.is_beyond.ensures, c.higher.ensures, c.lower.ensures) (outside_beyond _ _ _)

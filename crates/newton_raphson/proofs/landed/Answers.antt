@@ -1,0 +1,12 @@
+use Rattle.searching.specs.StepLaws.{steps}
+use Rattle.newton_raphson.specs.NewtonRaphson.{landed}
+use borrow.Author.Rules.{rules}
+use Rattle.newton_raphson.proofs.landed.Goals as goal
+
+pub returns-then-converged : goal.returns-then-converged
+unfolding landed
+returns-then-converged c = λ cs. search steps
+
+pub returns : goal.returns
+unfolding landed
+returns c = λ cs. search steps

@@ -1,0 +1,12 @@
+use Rattle.searching.specs.StepLaws.{steps}
+use Rattle.newton_raphson.specs.NewtonRaphson.{nudged_to, nudge}
+use borrow.Author.Rules.{rules}
+use Rattle.newton_raphson.proofs.nudge.Goals as goal
+
+pub returns-then-is_finite : goal.returns-then-is_finite
+unfolding nudge nudged_to
+returns-then-is_finite c = λ cs. search steps
+
+pub returns-else-is_finite : goal.returns-else-is_finite
+unfolding nudge
+returns-else-is_finite c = λ cs. search steps

@@ -1,0 +1,12 @@
+use Rattle.searching.specs.StepLaws.{steps}
+use Rattle.newton_raphson.specs.NewtonRaphson.{onward}
+use borrow.Author.Rules.{rules}
+use Rattle.newton_raphson.proofs.onward.Goals as goal
+
+pub returns-then-is_finite : goal.returns-then-is_finite
+unfolding onward
+returns-then-is_finite c = λ cs. search (steps, c.landed.ensures)
+
+pub returns-else-is_finite : goal.returns-else-is_finite
+unfolding onward
+returns-else-is_finite c = λ cs. search steps

@@ -1,0 +1,6 @@
+use Rattle.numerical.specs.AnswerLaws.{by_kind}
+use borrow.Author.Rules.{rules}
+use Rattle.numerical.proofs.Answer.kind.Goals as goal
+
+pub returns-in-Refused : goal.returns-in-Refused
+returns-in-Refused c = search by_kind

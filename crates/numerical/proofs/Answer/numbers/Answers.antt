@@ -1,0 +1,12 @@
+use Rattle.numerical.specs.AnswerLaws.{by_numbers}
+use borrow.Author.Rules.{rules}
+use Rattle.numerical.proofs.Answer.numbers.Goals as goal
+
+pub returns-in-ByValue : goal.returns-in-ByValue
+returns-in-ByValue c = search by_numbers
+
+pub returns-in-ByWidth : goal.returns-in-ByWidth
+returns-in-ByWidth c = search by_numbers
+
+pub returns-in-Refused : goal.returns-in-Refused
+returns-in-Refused c = search by_numbers

@@ -1,0 +1,9 @@
+use Rattle.numerical.specs.Choices.{choices}
+use borrow.Author.Rules.{rules}
+use Rattle.polynom.proofs.sample_if_finite.Goals as goal
+
+pub returns-then-is_finite : goal.returns-then-is_finite
+returns-then-is_finite c = search choices
+
+pub returns-else-is_finite : goal.returns-else-is_finite
+returns-else-is_finite c = search choices

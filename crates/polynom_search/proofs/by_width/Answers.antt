@@ -1,0 +1,12 @@
+use Rattle.searching.specs.StepLaws.{by_done}
+use Rattle.polynom_search.specs.PolynomSearch.{width_at}
+use Rattle.polynom_search.specs.TurnLaws.{by_middle, by_no_middle}
+use borrow.Author.Rules.{rules}
+use Rattle.polynom_search.proofs.by_width.Goals as goal
+
+pub returns-in_default : goal.returns-in_default
+returns-in_default c = search by_no_middle
+
+pub returns : goal.returns
+unfolding width_at
+returns c = search (by_middle, by_done)

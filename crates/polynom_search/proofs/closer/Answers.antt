@@ -1,0 +1,12 @@
+use Rattle.searching.specs.StepLaws.{steps}
+use Rattle.polynom_search.specs.PolynomSearch.{closer}
+use borrow.Author.Rules.{rules}
+use Rattle.polynom_search.proofs.closer.Goals as goal
+
+pub returns-then-abs : goal.returns-then-abs
+unfolding closer
+returns-then-abs c = λ cs. rw (← c.abs.ensures, ← c.abs-2.ensures) (search (steps, c.chosen.ensures))
+
+pub returns-else-abs : goal.returns-else-abs
+unfolding closer
+returns-else-abs c = λ cs. rw (← c.abs.ensures, ← c.abs-2.ensures) (search (steps, c.chosen-else-abs.ensures))

@@ -1,0 +1,9 @@
+use Rattle.polynom_search.specs.TurnLaws.{finite_middle, not_finite_middle}
+use borrow.Author.Rules.{rules}
+use Rattle.polynom_search.proofs.middle_in.Goals as goal
+
+pub returns-then-is_finite : goal.returns-then-is_finite
+returns-then-is_finite c = search finite_middle
+
+pub returns-else-is_finite : goal.returns-else-is_finite
+returns-else-is_finite c = search not_finite_middle

@@ -1,0 +1,16 @@
+use Rattle.searching.specs.StepLaws.{steps}
+use Rattle.regula_falsi.specs.RegulaFalsi.{first_at}
+use borrow.Author.Rules.{rules}
+use Rattle.regula_falsi.proofs.first_at.Goals as goal
+
+pub returns-then-found : goal.returns-then-found
+unfolding first_at
+returns-then-found c = search steps
+
+pub returns-in_default : goal.returns-in_default
+unfolding first_at
+returns-in_default c = search steps
+
+pub returns : goal.returns
+unfolding first_at
+returns c = search (steps, c.second_at.ensures)

@@ -1,0 +1,6 @@
+use mathlib.Core.Path.{refl}
+use borrow.Author.Rules.{rules}
+use Rattle.regula_falsi.proofs.left_replaced.Goals as goal
+
+pub returns : goal.returns
+returns c = rw c.right_after.ensures refl

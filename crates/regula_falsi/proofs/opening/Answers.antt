@@ -1,0 +1,8 @@
+use Rattle.searching.specs.StepLaws.{by_rising}
+use Rattle.regula_falsi.specs.RegulaFalsi.{opening}
+use borrow.Author.Rules.{rules}
+use Rattle.regula_falsi.proofs.opening.Goals as goal
+
+pub returns : goal.returns
+unfolding opening
+returns c = search by_rising

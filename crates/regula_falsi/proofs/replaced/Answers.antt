@@ -1,0 +1,12 @@
+use Rattle.numerical.specs.Choices.{choices}
+use Rattle.regula_falsi.specs.RegulaFalsi.{replaced_of}
+use borrow.Author.Rules.{rules}
+use Rattle.regula_falsi.proofs.replaced.Goals as goal
+
+pub returns-then-same_sign : goal.returns-then-same_sign
+unfolding replaced_of
+returns-then-same_sign c = search choices
+
+pub returns-else-same_sign : goal.returns-else-same_sign
+unfolding replaced_of
+returns-else-same_sign c = search choices

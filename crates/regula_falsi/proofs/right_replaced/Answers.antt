@@ -1,0 +1,6 @@
+use mathlib.Core.Path.{refl}
+use borrow.Author.Rules.{rules}
+use Rattle.regula_falsi.proofs.right_replaced.Goals as goal
+
+pub returns : goal.returns
+returns c = rw c.left_after.ensures refl

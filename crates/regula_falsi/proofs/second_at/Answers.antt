@@ -1,0 +1,16 @@
+use Rattle.searching.specs.StepLaws.{steps}
+use Rattle.regula_falsi.specs.RegulaFalsi.{second_at}
+use borrow.Author.Rules.{rules}
+use Rattle.regula_falsi.proofs.second_at.Goals as goal
+
+pub returns-then-found : goal.returns-then-found
+unfolding second_at
+returns-then-found c = λ cs. search steps
+
+pub returns-then-decided : goal.returns-then-decided
+unfolding second_at
+returns-then-decided c = λ cs. search steps
+
+pub returns : goal.returns
+unfolding second_at
+returns c = λ cs. search steps

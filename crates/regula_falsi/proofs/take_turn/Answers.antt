@@ -1,0 +1,12 @@
+use Rattle.searching.specs.StepLaws.{steps}
+use Rattle.regula_falsi.specs.RegulaFalsi.{turn_from}
+use borrow.Author.Rules.{rules}
+use Rattle.regula_falsi.proofs.take_turn.Goals as goal
+
+pub returns-then-is_finite : goal.returns-then-is_finite
+unfolding turn_from
+returns-then-is_finite c = search steps
+
+pub returns-else-is_finite : goal.returns-else-is_finite
+unfolding turn_from
+returns-else-is_finite c = search steps

@@ -1,0 +1,23 @@
+use Rattle.numerical.specs.Choices.{choices}
+use Rattle.roots.specs.Methods.{method_of}
+use Rattle.roots.proofs.Method.numbered.Goals as goal
+
+pub returns-in-1 : goal.returns-in-1
+unfolding method_of
+returns-in-1 c = search choices depth 9
+
+pub returns-in-2 : goal.returns-in-2
+unfolding method_of
+returns-in-2 c = rw c.in-1.keys2
+
+pub returns-in-3 : goal.returns-in-3
+unfolding method_of
+returns-in-3 c = rw c.in-1.keys3
+
+pub returns-in-4 : goal.returns-in-4
+unfolding method_of
+returns-in-4 c = rw c.in-1.keys4
+
+pub returns-in_default : goal.returns-in_default
+unfolding method_of
+returns-in_default c = search choices depth 9

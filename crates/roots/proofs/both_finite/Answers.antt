@@ -1,0 +1,13 @@
+use Rattle.numerical.specs.Choices.{choices}
+use Rattle.roots.specs.Calls.{all_finite}
+use Rattle.roots.specs.CallLaws.{one_finite}
+use borrow.Author.Rules.{rules}
+use Rattle.roots.proofs.both_finite.Goals as goal
+
+pub returns-then-is_finite : goal.returns-then-is_finite
+unfolding all_finite
+returns-then-is_finite c = search (choices, one_finite)
+
+pub returns-else-is_finite : goal.returns-else-is_finite
+unfolding all_finite
+returns-else-is_finite c = search choices

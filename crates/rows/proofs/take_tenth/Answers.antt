@@ -1,0 +1,14 @@
+use Rattle.rows.specs.TakeLaws.{tenth_ends, tenth_is, tenth_passes}
+use borrow.Author.Rules.{rules}
+use Rattle.rows.proofs.take_tenth.Reads as reads
+use Rattle.rows.proofs.take_tenth.Lts as lts
+use Rattle.rows.proofs.take_tenth.Goals as goal
+
+pub returns-then-s-p : goal.returns-then-s-p
+returns-then-s-p c = search tenth_ends
+
+pub returns-then-s-p-eq1 : goal.returns-then-s-p-eq1
+returns-then-s-p-eq1 c = search tenth_is
+
+pub returns-else-s-p-eq1 : goal.returns-else-s-p-eq1
+returns-else-s-p-eq1 c = search tenth_passes

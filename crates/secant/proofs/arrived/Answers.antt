@@ -1,0 +1,12 @@
+use Rattle.searching.specs.StepLaws.{steps}
+use Rattle.secant.specs.Secant.{arrived}
+use borrow.Author.Rules.{rules}
+use Rattle.secant.proofs.arrived.Goals as goal
+
+pub returns-then-found : goal.returns-then-found
+unfolding arrived
+returns-then-found c = λ cs. search steps
+
+pub returns : goal.returns
+unfolding arrived
+returns c = λ cs. search steps

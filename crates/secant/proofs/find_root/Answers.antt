@@ -1,0 +1,18 @@
+use Rattle.numerical.specs.TallyLaws.{room}
+use Rattle.searching.specs.LoopLaws.{opened_room}
+use Rattle.secant.specs.SecantLaws.{from_end, from_state, small_opening}
+use native.Mathlib.Omega.{arith}
+use borrow.Author.Rules.{rules}
+use Rattle.secant.proofs.find_root.Goals as goal
+
+pub opening-turn-requires : goal.opening-turn-requires
+opening-turn-requires c = search (rules, room)
+
+pub searched-requires : goal.searched-requires
+searched-requires c = (omega (arith, c.turns.ensures), search (opened_room, small_opening))
+
+pub returns-in-Ended : goal.returns-in-Ended
+returns-in-Ended c = search from_end
+
+pub returns-in-Next : goal.returns-in-Next
+returns-in-Next c = search from_state

@@ -1,0 +1,16 @@
+use Rattle.searching.specs.StepLaws.{steps}
+use Rattle.secant.specs.Secant.{turn_from}
+use borrow.Author.Rules.{rules}
+use Rattle.secant.proofs.take_turn.Goals as goal
+
+pub returns-then-flat : goal.returns-then-flat
+unfolding turn_from
+returns-then-flat c = search steps
+
+pub returns-then-is_finite : goal.returns-then-is_finite
+unfolding turn_from
+returns-then-is_finite c = search steps
+
+pub returns-else-is_finite : goal.returns-else-is_finite
+unfolding turn_from
+returns-else-is_finite c = search steps
