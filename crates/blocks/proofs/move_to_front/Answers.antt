@@ -5,7 +5,7 @@ use Rattle.blocks.proofs.part_length.Reads as part-length-reads
 use Rattle.blocks.proofs.move_to_front.Goals as goal
 
 pub returns-then-n-ne0 : goal.returns-then-n-ne0
-returns-then-n-ne0 c = (search part_counted, search part_moved)
+returns-then-n-ne0 c = record { count = search part_counted; bytes = search part_moved }
 
 pub returns-else-n-ne0 : goal.returns-else-n-ne0
-returns-else-n-ne0 c = (search part_counted, search part_none)
+returns-else-n-ne0 c = record { count = search part_counted; bytes = search part_none }
