@@ -2,7 +2,7 @@
 use Prim.Native.Nat.{ℕ, zero, suc, ◌+◌, ◌-◌, ◌*◌, ◌/◌, ◌^◌, ◌≤◌, ◌<◌}
 use native.Mathlib.Omega.{arith}
 use Rattle.std.specs.Prelude.{Bool, true, false, cond, not, ◌≡◌, refl, T, ltb, eqb, length, take, drop, get_or, Float}
-use Rattle.std.proofs.Common.{true≢false, ◌∙◌, subst, lt-ltb, le-ltb, eq-eqb, ne_eqb, ltb-true, ltb-false, eqb-true}
+use Rattle.std.proofs.Common.{true≢false, ◌∙◌, subst, le-ltb, eq-eqb, ne_eqb, ltb-true, ltb-false, eqb-true}
 use mathlib.Core.List.{List, [], ◌∷◌, ◌++◌, append_assoc, append-nil}
 use Rattle.std.proofs.Math.Path.{sym, ap}
 use Rattle.std.proofs.Math.ListN.{length-append, length-drop}
@@ -23,9 +23,9 @@ use Rattle.roots.specs.Methods.{method_number, start_count, method_of}
 use Rattle.roots.specs.declared.Method.{Method}
 use Rattle.rows.specs.Groups.{groups, groups_in}
 use Rattle.rows.specs.GroupLaws.{groups_last, groups_on, ten_at_most}
-use Rattle.rows.specs.Layouts.{Layout, end, number, spell, Row, at_end, and_then}
+use Rattle.rows.specs.Layouts.{Layout, end, number, spell, Row, and_then}
 use Rattle.rows.specs.LayoutLaws.{spell_append}
-use Rattle.records.specs.Records.{bits_of, head_row, tolerances_row, rule_row, call_row, answer_row, progress_row, row_of, between, is_double, is_tolerance, is_kind, is_tally, numbers_for, answer_of, started_at, noughts, padded, progress_of, doubles, behind_zero, headed, with_point, tolerances_for, record_layout, holds_both, longest_record}
+use Rattle.records.specs.Records.{bits_of, head_row, tolerances_row, rule_row, call_row, answer_row, progress_row, row_of, between, is_double, is_tolerance, is_kind, numbers_for, answer_of, started_at, noughts, padded, progress_of, doubles, behind_zero, headed, with_point, tolerances_for, record_layout, holds_both, longest_record}
 use Rattle.records.specs.Parts.{rule_layout, call_layout, answer_layout, progress_layout}
 use Rattle.records.specs.PartLaws.{CallNext, record_held, after_call, by_parts}
 use Rattle.records.specs.RoundLaws.{Held, Sound, at_the_end, most, least}

@@ -1,5 +1,5 @@
 -- The parts of a record, read one after the other.
-use Rattle.std.specs.Prelude.{ℕ, zero, suc, ◌+◌, ◌-◌, ◌≤◌, ◌<◌, Bool, eqb, length, take, drop, get_or, Float}
+use Rattle.std.specs.Prelude.{ℕ, ◌-◌, ◌≤◌, ◌<◌, Bool, eqb, length, take, drop, get_or, Float}
 use native.Mathlib.Omega.{arith}
 use Rattle.std.proofs.Math.Bool.{true, false, cond}
 use mathlib.Core.List.{List, [], ◌∷◌, ◌++◌}
@@ -22,16 +22,15 @@ use Rattle.roots.specs.Methods.{start_count, method_of}
 use Rattle.roots.specs.declared.Method.{Method}
 use Rattle.roots.specs.declared.Method.TheVariants.{Brent}
 use Rattle.rows.specs.Groups.{number_of, Took}
-use Rattle.rows.specs.Layouts.{Layout, end, number, Read, held, wrong, read, TookNumber, NoNumber, Goes, Fails}
-use Rattle.rows.specs.LayoutLaws.{goes_here, goes_on, goes_wrong, number_wrong, number_goes}
+use Rattle.rows.specs.Layouts.{Layout, end, number, read, TookNumber, NoNumber, Goes, Fails}
+use Rattle.rows.specs.LayoutLaws.{goes_on, goes_wrong, number_wrong, number_goes}
 use Rattle.rows.specs.declared.Taken.{Taken}
 use Rattle.rows.specs.declared.Taken.TheVariants as taken
-use Rattle.records.specs.Records.{between, is_double, is_tolerance, is_kind, is_tally, numbers_for, answer_of, started_at, noughts, padded, progress_of, doubles, behind_zero, headed, with_point, tolerances_for, record_layout, blank, no_record, told, reading_of}
+use Rattle.records.specs.Records.{between, is_tolerance, is_kind, is_tally, numbers_for, answer_of, started_at, noughts, padded, progress_of, doubles, behind_zero, headed, with_point, tolerances_for, record_layout, blank, no_record, reading_of}
 use Rattle.records.specs.Parts.{rule_layout, call_layout, answer_layout, progress_layout, TookIf, TookDouble, DoubleTook, FilledTo, Filled, HeadTaken, HeadTook, TolerancesTook, RuleTook, CallTaken, CallTook, AnswerTook, ProgressTook}
-use Rattle.records.specs.ReadLaws.{none_taken, passed, Behind, behind_test}
+use Rattle.records.specs.ReadLaws.{none_taken, passed, behind_test}
 use Rattle.records.specs.declared.Record.{Record}
 use Rattle.records.specs.declared.Reading.{Reading}
-use Rattle.records.specs.declared.Verdict.{Verdict}
 use Rattle.records.specs.declared.Verdict.TheVariants as verdict
 use Rattle.records.specs.declared.TakenDouble.{TakenDouble}
 use Rattle.records.specs.declared.TakenDouble.TheVariants as taken-double

@@ -1,5 +1,5 @@
 -- A record read part by part: the layouts of the parts, and what code found at an index. Definitions only.
-use Rattle.std.specs.Prelude.{ℕ, ◌≤◌, Bool, true, false, List, [], ◌∷◌, ◌≡◌, length, take, drop, Float}
+use Rattle.std.specs.Prelude.{ℕ, ◌≤◌, Bool, true, false, List, [], ◌∷◌, ◌≡◌, take, drop, Float}
 use Rattle.std.specs.Float.{binary64}
 use Rattle.std.specs.Float.Ieee.{of_bits}
 use Rattle.numerical.specs.declared.Answer.{Answer}
@@ -8,10 +8,10 @@ use Rattle.simple_convergency.specs.Stop.{greatest_limit, most_coefficients}
 use Rattle.simple_convergency.specs.declared.Tolerances.{Tolerances}
 use Rattle.roots.specs.Methods.{start_count}
 use Rattle.roots.specs.declared.Method.{Method}
-use Rattle.rows.specs.Layouts.{Layout, end, number, Read, held, wrong, read, TookNumber, NoNumber, Goes, Fails}
+use Rattle.rows.specs.Layouts.{Layout, number, Read, held, wrong, read, TookNumber, NoNumber, Goes, Fails}
 use Rattle.rows.specs.declared.Taken.{Taken}
 use Rattle.rows.specs.declared.Taken.TheVariants as taken
-use Rattle.records.specs.Records.{between, is_double, is_kind, is_tally, numbers_for, answer_of, started_at, progress_of, doubles, headed, tolerances_for, record_layout}
+use Rattle.records.specs.Records.{between, is_kind, is_tally, numbers_for, answer_of, started_at, progress_of, doubles, headed, tolerances_for, record_layout}
 use Rattle.records.specs.declared.Record.{Record}
 use Rattle.records.specs.declared.TakenDouble.{TakenDouble}
 use Rattle.records.specs.declared.TakenDouble.TheVariants as taken-double

@@ -1,8 +1,8 @@
 -- Numbers with a test, and doubles one after the other, as the reader takes them.
-use Prim.Native.Nat.{ℕ, zero, suc, ◌+◌, ◌-◌, ◌^◌, ◌≤◌, ◌<◌}
-use Rattle.std.proofs.Common.{add-one, true≢false, append_assoc, append-nil, ap, ◌∙◌, subst, length-set, take-suc-set, drop-set-lt}
+use Prim.Native.Nat.{ℕ, suc, ◌+◌, ◌-◌, ◌≤◌, ◌<◌}
+use Rattle.std.proofs.Common.{add-one, append_assoc, append-nil, ap, ◌∙◌, subst, length-set, take-suc-set, drop-set-lt}
 use native.Mathlib.Omega.{arith}
-use Rattle.std.specs.Prelude.{Bool, true, false, cond, not, List, [], ◌∷◌, ◌++◌, ◌≡◌, refl, ltb, length, take, drop, set, Float}
+use Rattle.std.specs.Prelude.{Bool, true, false, cond, not, List, [], ◌∷◌, ◌++◌, ◌≡◌, refl, length, take, drop, set, Float}
 use Rattle.std.proofs.Math.Path.{sym}
 use Rattle.std.specs.Float.{binary64}
 use Rattle.std.specs.Float.Ieee.{of_bits, lt}

@@ -1,5 +1,5 @@
 -- What was read is a record by its own row, with its bytes and its length; and what can be recorded reads back from its bytes.
-use Rattle.std.specs.Prelude.{ℕ, ◌+◌, ◌-◌, ◌≤◌, true, List, ◌++◌, ◌≡◌, take, drop}
+use Rattle.std.specs.Prelude.{ℕ, ◌-◌, ◌≤◌, true, List, ◌++◌, ◌≡◌, take, drop}
 use native.Mathlib.Omega.{arith}
 use Rattle.std.proofs.Math.Path.{ap}
 use Rattle.std.proofs.Common.{sym, ◌∙◌, subst, length-drop, drop_at, take_all}

@@ -7,7 +7,6 @@ use Rattle.doubles.specs.Doubles.{nought}
 use Rattle.numerical.specs.Answers.{kind_of, numbers_of, refused_at_once}
 use Rattle.numerical.specs.declared.Answer.{Answer}
 use Rattle.numerical.specs.declared.Answer.TheVariants.{ByValue, ByWidth, Refused}
-use Rattle.numerical.specs.declared.Outcome.{Outcome}
 use Rattle.numerical.specs.declared.Progress.{Progress}
 use Rattle.simple_convergency.specs.Stop.{bad_tolerance, tolerances_of, one_eps, greatest_limit, most_coefficients}
 use Rattle.simple_convergency.specs.declared.Tolerances.{Tolerances}

@@ -1,19 +1,17 @@
 -- A record's row taken apart and put together: what its numbers are if it is right, and that it is right if they are.
-use Rattle.std.specs.Prelude.{ℕ, zero, suc, ◌+◌, ◌-◌, ◌*◌, ◌^◌, ◌≤◌, ◌<◌, Bool, not, ◌≡◌, T, ltb, length, take, drop, get_or, Float}
-use Rattle.std.proofs.Common.{arith, true≢false, ◌∙◌, length-append, length-take-le}
+use Rattle.std.specs.Prelude.{ℕ, zero, suc, ◌+◌, ◌^◌, ◌≤◌, ◌<◌, Bool, not, ◌≡◌, T, ltb, length, take, Float}
+use Rattle.std.proofs.Common.{arith, true≢false, ◌∙◌, length-take-le}
 use Rattle.std.proofs.Math.Bool.{true, false, cond}
 use mathlib.Core.List.{List, [], ◌∷◌, ◌++◌, append_assoc, append-nil}
 use Rattle.std.proofs.Math.Path.{refl, sym, ap, subst}
 use Rattle.std.proofs.Math.Dec.{eqb}
-use Rattle.std.specs.Float.{nan}
-use Rattle.std.specs.Float.Ieee.{binary64, fits, of_bits, to_bits, nan_bits}
-use Rattle.std.specs.Float.Ieee.Bits.{of_bits-to_bits, to_bits-lt, to_bits-of_bits, nan_bits_is}
+use Rattle.std.specs.Float.Ieee.{binary64, fits, of_bits, to_bits}
+use Rattle.std.specs.Float.Ieee.Bits.{of_bits-to_bits, to_bits-lt}
 use Rattle.std.specs.Float.Ieee.Scale.{finite}
-use borrow.Author.Tests.{lt-ltb, le-ltb, eq-eqb, ne_eqb, eqb-true, eqb-false, ltb-true, ltb-false}
+use borrow.Author.Tests.{lt-ltb, le-ltb, ne_eqb, eqb-true, eqb-false, ltb-true, ltb-false}
 use Rattle.numerical.specs.Answers.{kind_of, numbers_of}
 use Rattle.numerical.specs.declared.Answer.{Answer}
 use Rattle.numerical.specs.declared.Answer.TheVariants.{ByValue, ByWidth, Refused}
-use Rattle.numerical.specs.declared.Outcome.{Outcome}
 use Rattle.numerical.specs.declared.Progress.{Progress}
 use Rattle.simple_convergency.specs.Stop.{bad_tolerance, either_bad, one_eps, greatest_limit, most_coefficients}
 use Rattle.simple_convergency.specs.StopLaws.{Good, both_good, good_both}
@@ -25,8 +23,7 @@ use Rattle.roots.specs.declared.Method.{Method}
 use Rattle.roots.specs.declared.Method.TheVariants.{Brent, RegulaFalsi, Secant, NewtonRaphson, Polynom}
 use Rattle.rows.specs.Layouts as rows
 use Rattle.rows.specs.Layouts.{Layout, end, number, Row, at_end, and_then}
-use Rattle.rows.specs.LayoutLaws.{row_fits, fits_row}
-use Rattle.records.specs.Records.{bits_of, head_row, tolerances_row, rule_row, call_row, answer_row, progress_row, row_of, between, is_double, is_tolerance, is_kind, is_tally, numbers_for, answer_of, started_at, padded, progress_of, doubles, behind_zero, headed, with_point, tolerances_for, record_layout, holds_both, recordable}
+use Rattle.records.specs.Records.{bits_of, head_row, tolerances_row, rule_row, call_row, answer_row, progress_row, row_of, between, is_double, is_tolerance, is_kind, is_tally, numbers_for, answer_of, started_at, padded, doubles, behind_zero, headed, with_point, tolerances_for, record_layout, holds_both, recordable}
 use Rattle.records.specs.Parts.{rule_layout, call_layout, answer_layout, progress_layout}
 use Rattle.records.specs.PartLaws.{CallNext, record_held, after_call, by_parts}
 use Rattle.records.specs.declared.Record.{Record}

@@ -1,24 +1,23 @@
 -- The parts of a record put one after the other, and a record written or refused.
-use Rattle.std.specs.Prelude.{ℕ, zero, suc, ◌+◌, ◌-◌, ◌*◌, ◌^◌, ◌≤◌, ◌<◌, Bool, true, cond, ◌⊎◌, ltb, eqb, length, take, drop, set, get_or, Float}
-use Rattle.std.proofs.Common.{add-one, arith, true≢false, inl, inr, sym, ◌∙◌, length-drop, length-append, take_all}
+use Rattle.std.specs.Prelude.{ℕ, ◌+◌, ◌-◌, ◌*◌, ◌≤◌, ◌<◌, Bool, true, ◌⊎◌, eqb, length, take, drop, set, get_or, Float}
+use Rattle.std.proofs.Common.{add-one, arith, true≢false, inl, inr, sym, ◌∙◌, length-append, take_all}
 use Rattle.std.proofs.Math.Bool.{false}
-use mathlib.Core.List.{List, [], ◌∷◌, ◌++◌, append_assoc, append-nil}
+use mathlib.Core.List.{List, [], ◌∷◌, ◌++◌, append_assoc}
 use Rattle.std.proofs.Math.Path.{◌≡◌, refl, ap}
-use Rattle.std.proofs.Math.Seq.{take-suc, take-length, drop-length}
+use Rattle.std.proofs.Math.Seq.{take-suc, take-length}
 use Rattle.std.specs.Float.Ieee.{nan, to_bits}
 use Rattle.std.specs.Float.{binary64}
 use borrow.Author.Tests.{lt-ltb, le-ltb, eq-eqb, ne_eqb}
 use Rattle.numerical.specs.declared.Answer.{Answer}
 use Rattle.numerical.specs.declared.Answer.TheVariants.{ByValue, ByWidth, Refused}
 use Rattle.numerical.specs.declared.Progress.{Progress}
-use Rattle.simple_convergency.specs.Stop.{most_coefficients}
 use Rattle.simple_convergency.specs.declared.Tolerances.{Tolerances}
 use Rattle.roots.specs.Calls.{starts_of}
 use Rattle.roots.specs.Methods.{method_number}
 use Rattle.roots.specs.declared.Method.{Method}
 use Rattle.roots.specs.declared.Method.TheVariants.{NewtonRaphson}
 use Rattle.rows.specs.Layouts.{spell, fits, Read, held, wrong, read}
-use Rattle.rows.specs.LayoutLaws.{wrong_held, row_only, right_if, wrong_if_none, wrong_if_short}
+use Rattle.rows.specs.LayoutLaws.{row_only, right_if, wrong_if_none, wrong_if_short}
 use Rattle.rows.specs.Puts.{Put, PutRow}
 use Rattle.rows.specs.PutLaws.{put_nothing, put_one, put_both, put_length, put_front, row_nothing, row_both}
 use Rattle.records.specs.Records.{bits_of, head_row, tolerances_row, rule_row, call_row, answer_row, progress_row, row_of, record_layout, holds_both, recordable, bytes_of, written_to, left_by, told, reading_of}

@@ -1,0 +1,5 @@
+use Rattle.records.specs.PartLaws.{blank_is}
+use Rattle.records.proofs.blank.Goals as goal
+
+pub returns : goal.returns
+returns c = search blank_is
