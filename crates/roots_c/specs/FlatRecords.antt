@@ -8,13 +8,11 @@ use Rattle.numerical.specs.declared.Answer.TheVariants.{ByValue, ByWidth, Refuse
 use Rattle.numerical.specs.declared.Outcome.{Outcome}
 use Rattle.simple_convergency.specs.Stop.{most_coefficients, tolerances_of}
 use Rattle.simple_convergency.specs.declared.Tolerances.{Tolerances}
-use Rattle.roots.specs.Calls.{starts_of}
 use Rattle.roots.specs.Methods.{method_number}
 use Rattle.roots.specs.declared.Method.{Method}
 use Rattle.roots.specs.declared.Method.TheVariants.{Brent, RegulaFalsi, Secant, NewtonRaphson, Polynom}
 use Rattle.records.specs.Records.{between, padded, progress_of, written_to, left_by, reading_of}
 use Rattle.records.specs.declared.Record.{Record}
-use Rattle.records.specs.declared.Reading.{Reading}
 use Rattle.records.specs.declared.Verdict.{Verdict}
 use Rattle.records.specs.declared.Verdict.TheVariants as verdict
 use Rattle.roots_c.specs.Flat.{chosen_by, counts_of}

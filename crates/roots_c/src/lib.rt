@@ -96,8 +96,7 @@ fn counts_of(progress: Progress) -> [u64; 4]
 
 // A search by the method's number; value and point are the tolerances. The kind is 0 by value, 1 by width, else 10 plus the
 // refusal's number.
-#[unsafe(no_mangle)]
-pub extern "C" fn roots_search(
+pub fn roots_search(
     coefficients: &[f64],
     method: u64,
     first: f64,
@@ -122,8 +121,7 @@ pub extern "C" fn roots_search(
 }
 
 // The version of this interface.
-#[unsafe(no_mangle)]
-pub extern "C" fn roots_version() -> u64
+pub fn roots_version() -> u64
     ensures { result ≡ version }
 {
     3
@@ -241,8 +239,7 @@ fn write_chosen(
 
 // Writes the record of a call and its answer, as roots_search took and gave them, as a record of a kind. It returns 0, 10
 // or 11.
-#[unsafe(no_mangle)]
-pub extern "C" fn roots_record_write(
+pub fn roots_record_write(
     record_kind: u64,
     coefficients: &[f64],
     method: u64,
@@ -318,8 +315,7 @@ fn words_of(verdict: Verdict, content: Record) -> [u64; 6]
 }
 
 // Reads the record at the start of the bytes. It returns 0 or 11, and then all that it leaves is zero.
-#[unsafe(no_mangle)]
-pub extern "C" fn roots_record_read(
+pub fn roots_record_read(
     bytes: &[u8],
     coefficients: &mut [f64; 16],
     points: &mut [f64; 4],

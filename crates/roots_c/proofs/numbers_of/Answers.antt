@@ -1,0 +1,11 @@
+use Rattle.roots_c.specs.FlatLaws.{by_numbers}
+use Rattle.roots_c.proofs.numbers_of.Goals as goal
+
+pub returns-in-ByValue : goal.returns-in-ByValue
+returns-in-ByValue c = search by_numbers
+
+pub returns-in-ByWidth : goal.returns-in-ByWidth
+returns-in-ByWidth c = search by_numbers
+
+pub returns-in-Refused : goal.returns-in-Refused
+returns-in-Refused c = search by_numbers

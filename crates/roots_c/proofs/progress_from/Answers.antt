@@ -1,0 +1,5 @@
+use Rattle.roots_c.specs.FlatRecordLaws.{progress_is}
+use Rattle.roots_c.proofs.progress_from.Goals as goal
+
+pub returns : goal.returns
+returns c = search progress_is
