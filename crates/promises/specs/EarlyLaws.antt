@@ -63,6 +63,7 @@ some_not (x ∷ rest) e = go (finite x) refl e (some_not rest)
 each_finite : (l : List Float) (x : Float) → Memᴰ x l → all_finite l ≡ true → finite x ≡ true
 each_finite (y ∷ rest) x (Memᴰ.head p) e = ap finite p ∙ (first_of y rest e).0
 each_finite (y ∷ rest) x (Memᴰ.tail k) e = each_finite rest x k (first_of y rest e).1
+each_finite [] x x4 e = elim x4 [ ]
 
 -- the test of finiteness holds where nothing is bad
 pub tells_finite : (l : List Float) → Tells (¬ SomeNotFinite l) (all_finite l)

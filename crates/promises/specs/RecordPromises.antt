@@ -288,13 +288,13 @@ module _ (κs : Lfts 1) (args : Dens κs write-kinds.ps) (g : GoodsP κs write-k
   point_held = search g.0
 
   coefficients_held : Held args.0.coefficients
-  coefficients_held = held_each args.0.coefficients _ (subst (λ (l : List Float). shadow (each Float (denote.Struct.Field.f64-field).row.own_val l g.0.1.1.1.0.0)) (map-id args.0.coefficients) g.0.1.1.1.0.1.1)
+  coefficients_held = held_each args.0.coefficients _ g.0.1.1.1.0.1.1
 
   sound_args : Sound args.0
   sound_args =
       record {
         kind = search g.0;
-        all = length_unmapped Float args.0.coefficients 16 g.0.1.1.1.0.1.0.1;
+        all = g.0.1.1.1.0.1.0.1;
         coefficients = held_front args.0.count args.0.coefficients coefficients_held;
         starts = held_starts args.0.method _ g.0.1.1.1.1.1.0;
         value_tolerance = of_true _ value_held;
