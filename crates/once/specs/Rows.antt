@@ -3,8 +3,8 @@ use Rattle.std.specs.Prelude.{ℕ, List}
 use Rattle.std.proofs.Common.{sym, ◌∙◌}
 use Rattle.rows.proofs.take.Reads as take-reads
 use Rattle.rows.proofs.put.Reads as put_reads
-use Rattle.rows.specs.TakeLaws.{taken_fixed}
-use Rattle.rows.specs.PutLaws.{put_fixed}
+use Rattle.rows.proofs.TakeLaws.{taken_fixed}
+use Rattle.rows.proofs.PutLaws.{put_fixed}
 use Rattle.once.specs.One.{One, Last}
 
 pub take_once : One take-reads.Learnt

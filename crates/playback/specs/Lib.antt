@@ -1,5 +1,3 @@
 -- What the contracts of `playback` cite.
 pub mod Playback
 -- what proofs cite
-pub mod PlaybackLaws
-pub mod AheadLaws

@@ -1,7 +1,2 @@
 -- What the contracts of `polynom_search` cite, and what the laws of searches give for it.
 pub mod PolynomSearch
-pub mod TurnLaws
-pub mod PolynomSearchLaws
-pub mod PolynomSearchKeeps
-pub mod PolynomSearchEvents
-pub mod PolynomSearchTraces

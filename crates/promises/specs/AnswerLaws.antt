@@ -10,14 +10,14 @@ use Rattle.numerical.specs.declared.Answer.{Answer}
 use Rattle.numerical.specs.declared.Outcome.{Outcome}
 use Rattle.numerical.specs.declared.Progress.{Progress}
 use Rattle.simple_convergency.specs.Stop.{greatest_limit, either_bad, checked_of}
-use Rattle.simple_convergency.specs.StopLaws.{Good, both_good, good_above}
+use Rattle.simple_convergency.proofs.StopLaws.{Good, both_good, good_above}
 use Rattle.simple_convergency.specs.declared.StopRule.{StopRule}
 use Rattle.simple_convergency.specs.declared.Checked.TheVariants.{Rule, Refused as RuleRefused}
 use Rattle.searching.specs.Programs.{Prog, done, ask, ask_both, log, Event, asked, asked_both, noted, oracle, play, answer_of}
 use Rattle.searching.specs.Histories.{listed, history, values_in, derivatives_in, steps_in, mark_in}
 use Rattle.searching.specs.ProgramLaws.{play_counted, counted, tallies_are_counts}
 use Rattle.polynom.specs.Polynom.{evaluated, evaluated_both}
-use Rattle.searching.specs.Keeps.{Ends}
+use Rattle.searching.proofs.Keeps.{Ends}
 use Rattle.brent.specs.Brent.{brent}
 use Rattle.regula_falsi.specs.RegulaFalsi.{regula_falsi}
 use Rattle.secant.specs.Secant.{secant}

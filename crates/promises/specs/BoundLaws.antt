@@ -2,11 +2,11 @@
 use Rattle.std.specs.Prelude.{ℕ, ◌≤◌, List, ◌≡◌, Float}
 use Rattle.std.proofs.Common.{arith}
 use Rattle.simple_convergency.specs.declared.StopRule.{StopRule}
-use Rattle.brent.specs.BrentLaws.{brent_values, brent_derivatives}
-use Rattle.regula_falsi.specs.RegulaFalsiLaws.{regula_falsi_values, regula_falsi_derivatives}
-use Rattle.secant.specs.SecantLaws.{secant_values, secant_derivatives}
-use Rattle.newton_raphson.specs.NewtonRaphsonLaws.{newton_raphson_values, newton_raphson_derivatives}
-use Rattle.polynom_search.specs.PolynomSearchLaws.{polynom_search_values, polynom_search_derivatives}
+use Rattle.brent.proofs.BrentLaws.{brent_values, brent_derivatives}
+use Rattle.regula_falsi.proofs.RegulaFalsiLaws.{regula_falsi_values, regula_falsi_derivatives}
+use Rattle.secant.proofs.SecantLaws.{secant_values, secant_derivatives}
+use Rattle.newton_raphson.proofs.NewtonRaphsonLaws.{newton_raphson_values, newton_raphson_derivatives}
+use Rattle.polynom_search.proofs.PolynomSearchLaws.{polynom_search_values, polynom_search_derivatives}
 use Rattle.simple_convergency.specs.declared.Tolerances.{Tolerances}
 use Rattle.roots.specs.Calls.{found_by, answer}
 use Rattle.roots.specs.declared.Method.{Method}

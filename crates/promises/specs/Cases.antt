@@ -11,7 +11,7 @@ use Rattle.simple_convergency.specs.Stop.{plain_limit, tolerances_of, bad_tolera
 use Rattle.polynom.specs.Polynom.{sums, value, sums_both, value_and_derivative, evaluated, evaluated_both}
 use Rattle.searching.specs.Programs.{rising, bind, test, stops, sampled, sampled_both, value_at, both_at, offered, pulled_into, product_departs, bracketed, steps_to, narrows_to, run, searches, play, answer_of}
 use Rattle.brent.specs.Brent as br
-use Rattle.brent.specs.BrentRust as rb
+use Rattle.brent.proofs.BrentRust as rb
 use Rattle.regula_falsi.specs.RegulaFalsi as rf
 use Rattle.secant.specs.Secant as sec
 use Rattle.newton_raphson.specs.NewtonRaphson as nr

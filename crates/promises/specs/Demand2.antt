@@ -2,7 +2,7 @@
 use Rattle.std.specs.Prelude.{ℕ, ◌+◌, List, ◌≡◌, refl, Float}
 use Rattle.std.proofs.Common.{arith}
 use Rattle.numerical.specs.declared.Outcome.{Outcome}
-use Rattle.brent.specs.BrentRepeats.{rust_repeats}
+use Rattle.brent.proofs.BrentRepeats.{rust_repeats}
 use Rattle.simple_convergency.specs.declared.Tolerances.{Tolerances}
 use Rattle.roots.specs.Calls.{found_by, answer}
 use Rattle.roots.specs.declared.Method.{Method}

@@ -5,8 +5,8 @@ use Rattle.std.specs.Float.{binary64}
 use Rattle.std.specs.Float.Ieee.{lt, sub}
 use Rattle.std.specs.Float.Ieee.Scale.{finite}
 use Rattle.doubles.specs.Doubles.{absolute, same_sign, order_of}
-use Rattle.doubles.specs.Pairs.{BetweenZ}
-use Rattle.doubles.specs.Sums.{minus_zero}
+use Rattle.doubles.proofs.Pairs.{BetweenZ}
+use Rattle.doubles.proofs.Sums.{minus_zero}
 use Rattle.numerical.specs.declared.Answer.TheVariants.{ByValue, ByWidth, Refused}
 use Rattle.numerical.specs.declared.Outcome.{Outcome}
 use Rattle.numerical.specs.declared.Sample.{Sample}
@@ -18,7 +18,7 @@ use Rattle.searching.specs.Histories.{steps_in}
 use Rattle.searching.specs.ProgramLaws.{counted}
 use Rattle.searching.specs.Programs.{Test, found, converged, holds, tested, Event, noted}
 use Rattle.searching.specs.Reasons.{Occurs, ends_run, CalledFor, SignsHeld, FlatHeld, NoneHeld, NotFiniteIn, EvaluatedAt, Reason}
-use Rattle.searching.specs.ExactLaws.{decided, tests_honest, points_finite, exactly_by_value, exactly_by_width, exactly_six, exactly_seven, exactly_eight, exactly_nine}
+use Rattle.searching.proofs.ExactLaws.{decided, tests_honest, points_finite, exactly_by_value, exactly_by_width, exactly_six, exactly_seven, exactly_eight, exactly_nine}
 use Rattle.simple_convergency.specs.declared.Tolerances.{Tolerances}
 use Rattle.roots.specs.Calls.{starts_of, answer}
 use Rattle.roots.specs.declared.Method.{Method}

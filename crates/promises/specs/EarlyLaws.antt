@@ -11,7 +11,7 @@ use Rattle.std.specs.Float.Ieee.{lt}
 use Rattle.std.specs.Float.Ieee.Scale.{finite}
 use Rattle.simple_convergency.specs.Stop.{least_tolerance, greatest_limit, most_coefficients, bad_tolerance, either_bad}
 use Rattle.simple_convergency.specs.declared.Tolerances.{Tolerances}
-use Rattle.roots.specs.CallLaws.{first_of}
+use Rattle.roots.proofs.CallLaws.{first_of}
 use Rattle.roots.specs.Calls.{bad_count, all_finite, starts_of}
 use Rattle.roots.specs.declared.Method.{Method}
 use Rattle.promises.specs.Searches.{BadCount, SomeNotFinite, BadTolerance, EitherBad, Early, one, two, three, four, five, Passes}

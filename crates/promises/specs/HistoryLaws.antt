@@ -10,17 +10,17 @@ use Rattle.simple_convergency.specs.declared.StopRule.{StopRule}
 use Rattle.polynom.specs.Polynom.{value}
 use Rattle.searching.specs.Brackets.{pairs_in}
 use Rattle.searching.specs.Events.{evaluations_in, signs_missed, Rules, Each, Width, BeforePairs, Ordered, Traced}
-use Rattle.searching.specs.EventLaws.{mark_known, values_are}
+use Rattle.searching.proofs.EventLaws.{mark_known, values_are}
 use Rattle.searching.specs.Histories.{history, steps_in, mark_in}
-use Rattle.searching.specs.Keeps.{Ends}
+use Rattle.searching.proofs.Keeps.{Ends}
 use Rattle.searching.specs.ProgramLaws.{counted}
 use Rattle.searching.specs.Programs.{flat, tested, noted, Event, oracle, answer_of}
 use Rattle.searching.specs.Reasons.{Reason, of_signs, of_flatness, of_limit, of_value, of_derivative, of_candidate, of_middle}
-use Rattle.brent.specs.BrentTraces.{brent_traced}
-use Rattle.regula_falsi.specs.RegulaFalsiTraces.{regula_falsi_traced}
-use Rattle.secant.specs.SecantTraces.{secant_ordered}
-use Rattle.newton_raphson.specs.NewtonRaphsonTraces.{newton_raphson_ordered}
-use Rattle.polynom_search.specs.PolynomSearchTraces.{polynom_search_traced}
+use Rattle.brent.proofs.BrentTraces.{brent_traced}
+use Rattle.regula_falsi.proofs.RegulaFalsiTraces.{regula_falsi_traced}
+use Rattle.secant.proofs.SecantTraces.{secant_ordered}
+use Rattle.newton_raphson.proofs.NewtonRaphsonTraces.{newton_raphson_ordered}
+use Rattle.polynom_search.proofs.PolynomSearchTraces.{polynom_search_traced}
 use Rattle.simple_convergency.specs.declared.Tolerances.{Tolerances}
 use Rattle.roots.specs.Calls.{starts_of, answer}
 use Rattle.roots.specs.declared.Method.{Method}

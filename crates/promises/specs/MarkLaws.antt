@@ -10,11 +10,11 @@ use Rattle.searching.specs.Programs.{Prog, oracle, answer_of}
 use Rattle.searching.specs.Histories.{history, mark_in}
 use Rattle.searching.specs.ProgramLaws.{counted, tallies_are_counts}
 use Rattle.searching.specs.Reasons.{Unmarked}
-use Rattle.regula_falsi.specs.RegulaFalsiMarks.{ZeroOrTwo, regula_falsi_marks}
-use Rattle.secant.specs.SecantKeeps.{secant_ends}
-use Rattle.newton_raphson.specs.NewtonRaphsonKeeps.{newton_raphson_ends}
+use Rattle.regula_falsi.proofs.RegulaFalsiMarks.{ZeroOrTwo, regula_falsi_marks}
+use Rattle.secant.proofs.SecantKeeps.{secant_ends}
+use Rattle.newton_raphson.proofs.NewtonRaphsonKeeps.{newton_raphson_ends}
 use Rattle.simple_convergency.specs.declared.Tolerances.{Tolerances}
-use Rattle.roots.specs.CallLaws.{first_of, both_of}
+use Rattle.roots.proofs.CallLaws.{first_of, both_of}
 use Rattle.roots.specs.Calls.{all_finite, starts_of, answer}
 use Rattle.roots.specs.declared.Method.{Method}
 use Rattle.roots.specs.declared.Method.TheVariants.{RegulaFalsi, Secant, NewtonRaphson}

@@ -2,12 +2,12 @@
 use Rattle.std.specs.Prelude.{ℕ, true, List, [], ◌∷◌, ◌≡◌, Float}
 use Rattle.std.proofs.Common.{subst}
 use Rattle.doubles.specs.Doubles.{order_of}
-use Rattle.doubles.specs.Number.{Double}
-use Rattle.doubles.specs.Pairs.{Inside, BetweenZ, inside_order}
+use Rattle.doubles.proofs.Number.{Double}
+use Rattle.doubles.proofs.Pairs.{Inside, BetweenZ, inside_order}
 use Rattle.numerical.specs.declared.Answer.{Answer}
 use Rattle.numerical.specs.declared.Answer.TheVariants.{ByValue, ByWidth}
 use Rattle.numerical.specs.declared.Interval.{Interval}
-use Rattle.searching.specs.BracketLaws.{ends_fit, newest_backed, newest_in}
+use Rattle.searching.proofs.BracketLaws.{ends_fit, newest_backed, newest_in}
 use Rattle.searching.specs.Brackets.{pairs_in, Backed, Narrows, no_pair, first_pair, next_pair, Told}
 use Rattle.simple_convergency.specs.declared.Tolerances.{Tolerances}
 use Rattle.roots.specs.Calls.{all_finite, starts_of, answer}

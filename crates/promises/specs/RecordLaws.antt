@@ -11,9 +11,9 @@ use Rattle.numerical.specs.Answers.{kind_of, numbers_of}
 use Rattle.simple_convergency.specs.Stop.{greatest_limit, most_coefficients}
 use Rattle.simple_convergency.specs.declared.Tolerances.{Tolerances}
 use Rattle.roots.specs.Calls.{starts_of, all_finite}
-use Rattle.rows.specs.LayoutLaws.{row_fits, fits_row}
+use Rattle.rows.proofs.LayoutLaws.{row_fits, fits_row}
 use Rattle.records.specs.Records.{between, is_kind, row_of, record_layout, holds_both, recordable}
-use Rattle.records.specs.RoundLaws.{Sound, Right, most, least, same_both, row_right, right_row, recordable_parts, parts_recordable}
+use Rattle.records.proofs.RoundLaws.{Sound, Right, most, least, same_both, row_right, right_row, recordable_parts, parts_recordable}
 use Rattle.records.specs.declared.Record.{Record}
 use Rattle.promises.specs.EarlyLaws.{Tells, tells_count, tells_finite, tells_tolerances, tells_limit, is_so, is_not}
 use Rattle.promises.specs.Searches.{SomeNotFinite, Passes}

@@ -18,12 +18,12 @@ use Rattle.roots.specs.declared.Method.TheVariants.{Brent, RegulaFalsi, Secant, 
 use Rattle.simple_convergency.specs.Stop.{most_coefficients, tolerances_of}
 use Rattle.rows.specs.Layouts as rows
 use Rattle.rows.specs.Layouts.{spell, Read, held, wrong, read, Row}
-use Rattle.rows.specs.LayoutLaws.{wrong_held, row_fits, fits_row, row_only, row_back, none_right, none_otherwise}
+use Rattle.rows.proofs.LayoutLaws.{wrong_held, row_fits, fits_row, row_only, row_back, none_right, none_otherwise}
 use denote.Array.{each}
 use denote.Shadow.{shadow}
 use mir.Val.{Val}
 use borrow.Author.Rules.{length_unmapped}
-use Rattle.doubles.specs.Compare.{of_true}
+use Rattle.doubles.proofs.Compare.{of_true}
 use denote.Triple.Clauses.{AtExit}
 use contract.Lifetimes.{Lfts}
 use borrow.Fn.Kinds.{GoodsP, Dens, ended_of}
@@ -40,9 +40,9 @@ use Rattle.roots_c.specs.declared.Chosen.TheVariants.{Known}
 use Rattle.records.proofs.read.Kinds as read-kinds
 use Rattle.records.proofs.read.Reads as read-reads
 use Rattle.records.specs.Records.{row_of, record_layout, recordable, longest_record, bytes_of, written_to, left_by, told, blank, reading_of}
-use Rattle.records.specs.RoundLaws.{Held, Sound, Right, trimmed, row_right, right_row, recordable_parts, parts_recordable}
-use Rattle.records.specs.WriteLaws.{eleven, ten, enough}
-use Rattle.records.specs.BackLaws as back
+use Rattle.records.proofs.RoundLaws.{Held, Sound, Right, trimmed, row_right, right_row, recordable_parts, parts_recordable}
+use Rattle.records.proofs.WriteLaws.{eleven, ten, enough}
+use Rattle.records.proofs.BackLaws as back
 use Rattle.records.specs.declared.Record.{Record}
 use Rattle.records.specs.declared.Reading.{Reading}
 use Rattle.records.specs.declared.Verdict.{Verdict}
@@ -196,7 +196,7 @@ module _ (s : List ℕ) where
       }
 
   module _ (o : Record) (t : List ℕ) (e : read record_layout s ≡ held o t) where
-    as_written : Rattle.rows.specs.LayoutLaws.Written record_layout s o t
+    as_written : Rattle.rows.proofs.LayoutLaws.Written record_layout s o t
     as_written = row_only record_layout s o t e
 
     own_row : row_of o ≡ as_written.numbers

@@ -12,7 +12,7 @@ use Rattle.std.specs.Float.Ieee.{fits}
 use denote.Triple.Clauses.{AtExit}
 use contract.Lifetimes.{Lfts}
 use borrow.Fn.Kinds.{GoodsP, Dens, ended_of}
-use Rattle.doubles.specs.Compare.{of_true}
+use Rattle.doubles.proofs.Compare.{of_true}
 use Rattle.doubles.specs.Doubles.{nought}
 use Rattle.numerical.specs.Answers.{kind_of, numbers_of, refused_at_once}
 use Rattle.numerical.specs.declared.Answer.{Answer}

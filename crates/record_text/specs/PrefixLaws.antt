@@ -9,9 +9,9 @@ use Rattle.std.proofs.lemmas.List.{take-append-le}
 use Rattle.std.proofs.Math.Seq.{take-append_seam}
 use Rattle.rows.specs.Groups.{groups, groups_in}
 use Rattle.rows.specs.Layouts.{Layout, number, spell, Read, held, wrong, read, Row, and_then}
-use Rattle.rows.specs.LayoutLaws.{row_fits, row_back, row_only, none_right}
+use Rattle.rows.proofs.LayoutLaws.{row_fits, row_back, row_only, none_right}
 use Rattle.records.specs.Records.{headed, record_layout, longest_record, told, reading_of}
-use Rattle.records.specs.BackLaws.{at_most_longest}
+use Rattle.records.proofs.BackLaws.{at_most_longest}
 use Rattle.records.specs.declared.Record.{Record}
 use Rattle.records.specs.declared.Verdict.TheVariants as verdict
 

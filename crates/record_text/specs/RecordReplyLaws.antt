@@ -8,10 +8,10 @@ use Rattle.std.specs.Float.{nan}
 use borrow.Author.Tests.{le-ltb}
 use Rattle.numerical.specs.declared.Outcome.{Outcome}
 use Rattle.roots.specs.Calls.{answer}
-use Rattle.rows.specs.LayoutLaws.{fits_row}
+use Rattle.rows.proofs.LayoutLaws.{fits_row}
 use Rattle.records.specs.Records.{call_row, row_of, record_layout, holds_both, recordable, longest_record, newest, bytes_of, written_to, left_by}
-use Rattle.records.specs.RoundLaws.{recordable_parts}
-use Rattle.records.specs.BackLaws.{at_most_longest}
+use Rattle.records.proofs.RoundLaws.{recordable_parts}
+use Rattle.records.proofs.BackLaws.{at_most_longest}
 use Rattle.records.specs.declared.Record.{Record}
 use Rattle.records.specs.declared.Verdict.{Verdict}
 use Rattle.records.specs.declared.Verdict.TheVariants as verdict

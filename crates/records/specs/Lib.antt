@@ -1,13 +1,3 @@
 -- What the contracts of `records` cite.
 pub mod Records
 pub mod Parts
--- what proofs cite
-pub mod ReadLaws
-pub mod PartLaws
-pub mod WriteLaws
--- what the promises cite
-pub mod RoundLaws
-pub mod BackLaws
--- what whoever reads one record after another cites
-pub mod PrefixLaws
-pub mod ReadingLaws

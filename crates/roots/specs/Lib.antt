@@ -1,4 +1,3 @@
 -- What the contracts of `roots` cite.
 pub mod Methods
 pub mod Calls
-pub mod CallLaws

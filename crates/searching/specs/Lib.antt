@@ -4,15 +4,8 @@ pub mod Rules
 pub mod Histories
 pub mod ProgramLaws
 pub mod Bounds
-pub mod RuleLaws
-pub mod StepLaws
 pub mod LoopLaws
 -- what is promised of every history, and the rules by which a method keeps it
 pub mod Reasons
-pub mod ReasonLaws
-pub mod ExactLaws
 pub mod Brackets
-pub mod BracketLaws
-pub mod Keeps
 pub mod Events
-pub mod EventLaws

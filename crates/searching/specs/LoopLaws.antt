@@ -7,7 +7,7 @@ use Rattle.std.proofs.Math.Path.{refl}
 use Rattle.std.proofs.Common.{ap, sym, ◌∙◌}
 use Rattle.numerical.specs.Answers.{outcome}
 use Rattle.numerical.specs.Tallies.{fresh, Room}
-use Rattle.numerical.specs.TallyLaws.{room_fresh}
+use Rattle.numerical.proofs.TallyLaws.{room_fresh}
 use Rattle.numerical.specs.declared.Answer.{Answer}
 use Rattle.numerical.specs.declared.Answer.TheVariants.{Refused}
 use Rattle.numerical.specs.declared.Outcome.{Outcome}

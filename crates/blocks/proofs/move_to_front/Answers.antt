@@ -1,4 +1,4 @@
-use Rattle.blocks.specs.BlockLaws.{part_counted, part_moved, part_none}
+use Rattle.blocks.proofs.BlockLaws.{part_counted, part_moved, part_none}
 use borrow.Author.Rules.{rules}
 use Rattle.blocks.proofs.moved.Reads as moved-reads
 use Rattle.blocks.proofs.part_length.Reads as part-length-reads

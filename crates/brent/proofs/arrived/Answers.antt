@@ -1,5 +1,5 @@
-use Rattle.brent.specs.BrentLaws.{by_kept_a, by_kept_b}
-use Rattle.brent.specs.BrentRule.{room_opposite, opposite_decision, by_opposite}
+use Rattle.brent.proofs.BrentLaws.{by_kept_a, by_kept_b}
+use Rattle.brent.proofs.BrentRule.{room_opposite, opposite_decision, by_opposite}
 use Rattle.brent.specs.Brent.{arrived}
 use borrow.Author.Rules.{rules}
 use Rattle.brent.proofs.arrived.Goals as goal

@@ -1,4 +1,4 @@
-use Rattle.numerical.specs.Choices.{choices}
+use Rattle.numerical.proofs.Choices.{choices}
 use Rattle.brent.specs.Brent.{bisects}
 use borrow.Author.Rules.{rules}
 use Rattle.brent.proofs.bisects.Goals as goal

@@ -1,6 +1,6 @@
-use Rattle.numerical.specs.TallyLaws.{room}
+use Rattle.numerical.proofs.TallyLaws.{room}
 use Rattle.searching.specs.LoopLaws.{opened_room}
-use Rattle.brent.specs.BrentLaws.{from_end, from_state, small_opening}
+use Rattle.brent.proofs.BrentLaws.{from_end, from_state, small_opening}
 use native.Mathlib.Omega.{arith}
 use borrow.Author.Rules.{rules}
 use Rattle.brent.proofs.find_root.Goals as goal

@@ -1,4 +1,4 @@
-use Rattle.searching.specs.StepLaws.{steps}
+use Rattle.searching.proofs.StepLaws.{steps}
 use Rattle.brent.specs.Brent.{first_at}
 use borrow.Author.Rules.{rules}
 use Rattle.brent.proofs.first_at.Goals as goal

@@ -1,4 +1,4 @@
-use Rattle.numerical.specs.Choices.{choices}
+use Rattle.numerical.proofs.Choices.{choices}
 use Rattle.brent.specs.Brent.{guess_of}
 use borrow.Author.Rules.{rules}
 use Rattle.brent.proofs.guess_of.Goals as goal

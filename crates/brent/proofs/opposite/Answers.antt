@@ -1,4 +1,4 @@
-use Rattle.searching.specs.RuleLaws.{unequal_differ}
+use Rattle.searching.proofs.RuleLaws.{unequal_differ}
 use Rattle.brent.specs.Brent.{step_departs}
 use borrow.Author.Rules.{rules}
 use Rattle.brent.proofs.opposite.Goals as goal

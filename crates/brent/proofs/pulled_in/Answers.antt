@@ -1,5 +1,5 @@
-use Rattle.searching.specs.RuleLaws.{rules_room}
-use Rattle.searching.specs.StepLaws.{steps}
+use Rattle.searching.proofs.RuleLaws.{rules_room}
+use Rattle.searching.proofs.StepLaws.{steps}
 use Rattle.brent.specs.Brent.{pulled_in}
 use borrow.Author.Rules.{rules}
 use Rattle.brent.proofs.pulled_in.Goals as goal

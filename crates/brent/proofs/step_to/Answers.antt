@@ -1,5 +1,5 @@
-use Rattle.searching.specs.StepLaws.{by_narrow_to}
-use Rattle.brent.specs.BrentLaws.{moved_larger, moved_not_larger}
+use Rattle.searching.proofs.StepLaws.{by_narrow_to}
+use Rattle.brent.proofs.BrentLaws.{moved_larger, moved_not_larger}
 use borrow.Author.Rules.{rules}
 use Rattle.brent.proofs.step_to.Goals as goal
 

@@ -1,4 +1,4 @@
-use Rattle.searching.specs.StepLaws.{steps}
+use Rattle.searching.proofs.StepLaws.{steps}
 use Rattle.brent.specs.Brent.{step_with}
 use borrow.Author.Rules.{rules}
 use Rattle.brent.proofs.step_with.Goals as goal

@@ -1,5 +1,5 @@
-use Rattle.numerical.specs.TallyLaws.{room}
-use Rattle.searching.specs.StepLaws.{by_held, by_missed, by_done}
+use Rattle.numerical.proofs.TallyLaws.{room}
+use Rattle.searching.proofs.StepLaws.{by_held, by_missed, by_done}
 use Rattle.searching.specs.Programs.{ended}
 use Rattle.brent.specs.Brent.{by_width, turn_from}
 use borrow.Author.Rules.{rules}

@@ -1,4 +1,4 @@
-use Rattle.numerical.specs.Choices.{choices}
+use Rattle.numerical.proofs.Choices.{choices}
 use Rattle.brent.specs.Brent.{three_values}
 use Rattle.brent.proofs.three_values.Goals as goal
 

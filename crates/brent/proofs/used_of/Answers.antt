@@ -1,4 +1,4 @@
-use Rattle.numerical.specs.Choices.{choices}
+use Rattle.numerical.proofs.Choices.{choices}
 use Rattle.brent.specs.Brent.{used_of}
 use Rattle.brent.proofs.used_of.Goals as goal
 

@@ -1,5 +1,5 @@
 -- `doubles::same_sign` meets its contract. Assumes nothing.
-use Rattle.doubles.specs.Signs.{same_sides}
+use Rattle.doubles.proofs.Signs.{same_sides}
 use Rattle.doubles.proofs.same_sign.Goals as goal
 
 pub returns : goal.returns

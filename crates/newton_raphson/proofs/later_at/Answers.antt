@@ -1,4 +1,4 @@
-use Rattle.searching.specs.StepLaws.{steps}
+use Rattle.searching.proofs.StepLaws.{steps}
 use Rattle.newton_raphson.specs.NewtonRaphson.{later_at}
 use borrow.Author.Rules.{rules}
 use Rattle.newton_raphson.proofs.later_at.Goals as goal

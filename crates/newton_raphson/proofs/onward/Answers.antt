@@ -1,4 +1,4 @@
-use Rattle.searching.specs.StepLaws.{steps}
+use Rattle.searching.proofs.StepLaws.{steps}
 use Rattle.newton_raphson.specs.NewtonRaphson.{onward}
 use borrow.Author.Rules.{rules}
 use Rattle.newton_raphson.proofs.onward.Goals as goal

@@ -1,5 +1,5 @@
-use Rattle.searching.specs.StepLaws.{steps}
-use Rattle.numerical.specs.TallyLaws.{room}
+use Rattle.searching.proofs.StepLaws.{steps}
+use Rattle.numerical.proofs.TallyLaws.{room}
 use Rattle.newton_raphson.specs.NewtonRaphson.{opening}
 use borrow.Author.Rules.{rules}
 use Rattle.newton_raphson.proofs.opening.Goals as goal

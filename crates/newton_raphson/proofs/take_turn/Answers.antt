@@ -1,5 +1,5 @@
-use Rattle.searching.specs.StepLaws.{steps}
-use Rattle.numerical.specs.TallyLaws.{room}
+use Rattle.searching.proofs.StepLaws.{steps}
+use Rattle.numerical.proofs.TallyLaws.{room}
 use Rattle.newton_raphson.specs.NewtonRaphson.{turn_from}
 use borrow.Author.Rules.{rules}
 use Rattle.newton_raphson.proofs.take_turn.Goals as goal

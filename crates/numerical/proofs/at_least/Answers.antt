@@ -1,4 +1,4 @@
-use Rattle.numerical.specs.Choices.{choices}
+use Rattle.numerical.proofs.Choices.{choices}
 use Rattle.numerical.specs.Middle.{at_least}
 use Rattle.numerical.proofs.at_least.Goals as goal
 

@@ -1,4 +1,4 @@
-use Rattle.playback.specs.PlaybackLaws.{bits_are}
+use Rattle.playback.proofs.PlaybackLaws.{bits_are}
 use borrow.Author.Rules.{rules}
 use Rattle.playback.proofs.bits_of.Statement.{statement}
 use Rattle.playback.proofs.bits_of.Tie as tie

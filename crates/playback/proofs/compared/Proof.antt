@@ -1,4 +1,4 @@
-use Rattle.playback.specs.PlaybackLaws.{compared_is}
+use Rattle.playback.proofs.PlaybackLaws.{compared_is}
 use borrow.Author.Rules.{rules}
 use Rattle.playback.proofs.compared.Statement.{statement}
 use Rattle.playback.proofs.compared.Tie as tie

@@ -1,4 +1,4 @@
-use Rattle.playback.specs.PlaybackLaws.{fields_are}
+use Rattle.playback.proofs.PlaybackLaws.{fields_are}
 use borrow.Author.Rules.{rules}
 use Rattle.playback.proofs.fields_of.Statement.{statement}
 use Rattle.playback.proofs.fields_of.Tie as tie

@@ -1,6 +1,6 @@
 use borrow.Author.Rules.{rules}
 use Prim.Native.Nat.{◌-◌}
-use Rattle.playback.specs.PlaybackLaws.{Comparing, compare_starts, compare_on, compare_differs, compare_ends}
+use Rattle.playback.proofs.PlaybackLaws.{Comparing, compare_starts, compare_on, compare_differs, compare_ends}
 use Rattle.playback.proofs.first_difference.Statement.{statement}
 use Rattle.playback.proofs.first_difference.Tie as tie
 use Rattle.playback.proofs.Field.at.Reads as at_reads

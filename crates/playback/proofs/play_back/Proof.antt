@@ -1,7 +1,7 @@
 use Prim.Native.Nat.{◌-◌}
 use lib.ListN.{length}
 use borrow.Author.Rules.{rules}
-use Rattle.playback.specs.PlaybackLaws.{Playing, play_starts, play_refused, play_few, play_fits, play_less, play_differs, play_on, play_ends}
+use Rattle.playback.proofs.PlaybackLaws.{Playing, play_starts, play_refused, play_few, play_fits, play_less, play_differs, play_on, play_ends}
 use Rattle.playback.proofs.play_back.Statement.{statement}
 use Rattle.playback.proofs.play_back.Tie as tie
 use Rattle.playback.proofs.compared.Reads as compared-reads

@@ -1,4 +1,4 @@
-use Rattle.numerical.specs.Choices.{choices}
+use Rattle.numerical.proofs.Choices.{choices}
 use borrow.Author.Rules.{rules}
 use Rattle.polynom.proofs.sample_if_finite.Goals as goal
 

@@ -1,6 +1,6 @@
-use Rattle.searching.specs.StepLaws.{steps}
-use Rattle.numerical.specs.TallyLaws.{room}
-use Rattle.polynom_search.specs.TurnLaws.{by_no_slope, by_newton, by_no_newton}
+use Rattle.searching.proofs.StepLaws.{steps}
+use Rattle.numerical.proofs.TallyLaws.{room}
+use Rattle.polynom_search.proofs.TurnLaws.{by_no_slope, by_newton, by_no_newton}
 use borrow.Author.Rules.{rules}
 use Rattle.polynom_search.proofs.at_middle.Goals as goal
 use Rattle.polynom_search.proofs.at_middle.Goals.{then-v+else-in_pair, else-v}

@@ -1,6 +1,6 @@
-use Rattle.searching.specs.StepLaws.{by_done}
+use Rattle.searching.proofs.StepLaws.{by_done}
 use Rattle.polynom_search.specs.PolynomSearch.{width_at}
-use Rattle.polynom_search.specs.TurnLaws.{by_middle, by_no_middle}
+use Rattle.polynom_search.proofs.TurnLaws.{by_middle, by_no_middle}
 use borrow.Author.Rules.{rules}
 use Rattle.polynom_search.proofs.by_width.Goals as goal
 

@@ -1,5 +1,5 @@
-use Rattle.searching.specs.RuleLaws.{rules_room}
-use Rattle.polynom_search.specs.TurnLaws.{by_begin_replaced, by_end_replaced}
+use Rattle.searching.proofs.RuleLaws.{rules_room}
+use Rattle.polynom_search.proofs.TurnLaws.{by_begin_replaced, by_end_replaced}
 use borrow.Author.Rules.{rules}
 use Rattle.polynom_search.proofs.chosen.Goals as goal
 

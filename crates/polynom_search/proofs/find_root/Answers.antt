@@ -1,6 +1,6 @@
-use Rattle.numerical.specs.TallyLaws.{room}
+use Rattle.numerical.proofs.TallyLaws.{room}
 use Rattle.searching.specs.LoopLaws.{opened_room}
-use Rattle.polynom_search.specs.PolynomSearchLaws.{from_end, from_state, small_opening}
+use Rattle.polynom_search.proofs.PolynomSearchLaws.{from_end, from_state, small_opening}
 use native.Mathlib.Omega.{arith}
 use borrow.Author.Rules.{rules}
 use Rattle.polynom_search.proofs.find_root.Goals as goal

@@ -1,4 +1,4 @@
-use Rattle.numerical.specs.Choices.{choices}
+use Rattle.numerical.proofs.Choices.{choices}
 use Rattle.polynom_search.specs.PolynomSearch.{in_pair}
 use Rattle.polynom_search.proofs.in_pair.Goals as goal
 

@@ -1,4 +1,4 @@
-use Rattle.polynom_search.specs.TurnLaws.{by_middle, by_no_middle, room_middle}
+use Rattle.polynom_search.proofs.TurnLaws.{by_middle, by_no_middle, room_middle}
 use borrow.Author.Rules.{rules}
 use Rattle.polynom_search.proofs.narrow.Goals as goal
 

@@ -1,4 +1,4 @@
-use Rattle.searching.specs.StepLaws.{by_rising}
+use Rattle.searching.proofs.StepLaws.{by_rising}
 use Rattle.polynom_search.specs.PolynomSearch.{opening}
 use borrow.Author.Rules.{rules}
 use Rattle.polynom_search.proofs.opening.Goals as goal

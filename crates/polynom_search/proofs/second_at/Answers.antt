@@ -1,4 +1,4 @@
-use Rattle.searching.specs.StepLaws.{steps}
+use Rattle.searching.proofs.StepLaws.{steps}
 use Rattle.polynom_search.specs.PolynomSearch.{second_at}
 use borrow.Author.Rules.{rules}
 use Rattle.polynom_search.proofs.second_at.Goals as goal

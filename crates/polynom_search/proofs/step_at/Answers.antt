@@ -1,5 +1,5 @@
-use Rattle.searching.specs.StepLaws.{steps}
-use Rattle.numerical.specs.TallyLaws.{room}
+use Rattle.searching.proofs.StepLaws.{steps}
+use Rattle.numerical.proofs.TallyLaws.{room}
 use Rattle.polynom_search.specs.PolynomSearch.{step_at}
 use borrow.Author.Rules.{rules}
 use Rattle.polynom_search.proofs.step_at.Goals as goal

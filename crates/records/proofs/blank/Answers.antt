@@ -1,4 +1,4 @@
-use Rattle.records.specs.PartLaws.{blank_is}
+use Rattle.records.proofs.PartLaws.{blank_is}
 use Rattle.records.proofs.blank.Goals as goal
 
 pub returns : goal.returns

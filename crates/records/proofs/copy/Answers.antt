@@ -1,4 +1,4 @@
-use Rattle.records.specs.WriteLaws.{copy_starts, copy_on, copy_done}
+use Rattle.records.proofs.WriteLaws.{copy_starts, copy_on, copy_done}
 use Rattle.records.proofs.copy.Goals as goal
 
 pub loop-i-init : goal.loop-i-init

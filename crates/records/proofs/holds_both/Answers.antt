@@ -1,5 +1,5 @@
-use Rattle.records.specs.WriteLaws.{same_bits}
-use Rattle.numerical.specs.Choices.{choices}
+use Rattle.records.proofs.WriteLaws.{same_bits}
+use Rattle.numerical.proofs.Choices.{choices}
 use Rattle.records.specs.Records.{holds_both}
 use Rattle.records.proofs.holds_both.Goals as goal
 

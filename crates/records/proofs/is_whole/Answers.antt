@@ -1,4 +1,4 @@
-use Rattle.records.specs.WriteLaws.{whole_not, whole_if}
+use Rattle.records.proofs.WriteLaws.{whole_not, whole_if}
 use Rattle.records.proofs.is_whole.Goals as goal
 
 pub returns-in_default : goal.returns-in_default

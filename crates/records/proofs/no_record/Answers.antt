@@ -1,4 +1,4 @@
-use Rattle.records.specs.PartLaws.{no_record_is}
+use Rattle.records.proofs.PartLaws.{no_record_is}
 use Rattle.records.proofs.no_record.Goals as goal
 
 pub returns : goal.returns

@@ -1,5 +1,5 @@
 use Rattle.records.specs.Records.{numbers_for}
-use Rattle.numerical.specs.Choices.{choices}
+use Rattle.numerical.proofs.Choices.{choices}
 use borrow.Author.Rules.{rules}
 use Rattle.records.proofs.number_count.Goals as goal
 

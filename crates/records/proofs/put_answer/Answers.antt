@@ -1,4 +1,4 @@
-use Rattle.records.specs.WriteLaws.{value_put, width_put, refused_put}
+use Rattle.records.proofs.WriteLaws.{value_put, width_put, refused_put}
 use borrow.Author.Rules.{rules}
 use Rattle.records.proofs.put_answer.Goals as goal
 

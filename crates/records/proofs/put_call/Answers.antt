@@ -1,4 +1,4 @@
-use Rattle.records.specs.WriteLaws.{call_put}
+use Rattle.records.proofs.WriteLaws.{call_put}
 use borrow.Author.Rules.{rules}
 use Rattle.records.proofs.put_call.Goals as goal
 

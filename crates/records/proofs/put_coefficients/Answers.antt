@@ -1,4 +1,4 @@
-use Rattle.records.specs.WriteLaws.{all_put}
+use Rattle.records.proofs.WriteLaws.{all_put}
 use borrow.Author.Rules.{rules}
 use Rattle.records.proofs.put_coefficients.Goals as goal
 

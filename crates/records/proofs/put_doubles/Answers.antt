@@ -1,4 +1,4 @@
-use Rattle.records.specs.WriteLaws.{doubles_start, doubles_on, doubles_done}
+use Rattle.records.proofs.WriteLaws.{doubles_start, doubles_on, doubles_done}
 use borrow.Author.Rules.{rules}
 use Rattle.records.proofs.put_doubles.Goals as goal
 

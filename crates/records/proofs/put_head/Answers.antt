@@ -1,4 +1,4 @@
-use Rattle.records.specs.WriteLaws.{old_head_put, new_head_put}
+use Rattle.records.proofs.WriteLaws.{old_head_put, new_head_put}
 use borrow.Author.Rules.{rules}
 use Rattle.records.proofs.put_head.Goals as goal
 

@@ -1,4 +1,4 @@
-use Rattle.rows.specs.PutLaws.{row_one, number_near}
+use Rattle.rows.proofs.PutLaws.{row_one, number_near}
 use borrow.Author.Rules.{rules}
 use Rattle.records.proofs.put_number.Goals as goal
 

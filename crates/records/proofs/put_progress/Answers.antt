@@ -1,4 +1,4 @@
-use Rattle.records.specs.WriteLaws.{progress_put}
+use Rattle.records.proofs.WriteLaws.{progress_put}
 use borrow.Author.Rules.{rules}
 use Rattle.records.proofs.put_progress.Goals as goal
 

@@ -1,4 +1,4 @@
-use Rattle.records.specs.WriteLaws.{record_put}
+use Rattle.records.proofs.WriteLaws.{record_put}
 use borrow.Author.Rules.{rules}
 use Rattle.records.proofs.put_record.Goals as goal
 

@@ -1,4 +1,4 @@
-use Rattle.records.specs.WriteLaws.{rule_put}
+use Rattle.records.proofs.WriteLaws.{rule_put}
 use borrow.Author.Rules.{rules}
 use Rattle.records.proofs.put_rule.Goals as goal
 

@@ -1,4 +1,4 @@
-use Rattle.records.specs.WriteLaws.{starts_put, start_put}
+use Rattle.records.proofs.WriteLaws.{starts_put, start_put}
 use borrow.Author.Rules.{rules}
 use Rattle.records.proofs.put_starts.Goals as goal
 

@@ -1,4 +1,4 @@
-use Rattle.records.specs.WriteLaws.{one_put, two_put}
+use Rattle.records.proofs.WriteLaws.{one_put, two_put}
 use borrow.Author.Rules.{rules}
 use Rattle.records.proofs.put_tolerances.Goals as goal
 

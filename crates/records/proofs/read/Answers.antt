@@ -1,4 +1,4 @@
-use Rattle.records.specs.PartLaws.{record_no_call, record_no_answer, record_no_progress, record_is}
+use Rattle.records.proofs.PartLaws.{record_no_call, record_no_answer, record_no_progress, record_is}
 use borrow.Author.Rules.{rules}
 use Rattle.records.proofs.read.Goals as goal
 

@@ -1,4 +1,4 @@
-use Rattle.records.specs.PartLaws.{no_kind, no_numbers, answer_by_value, answer_by_width, answer_refused, kind_place, ten_below, refusal_fits}
+use Rattle.records.proofs.PartLaws.{no_kind, no_numbers, answer_by_value, answer_by_width, answer_refused, kind_place, ten_below, refusal_fits}
 use borrow.Author.Rules.{rules}
 use Rattle.records.proofs.read_answer.Goals as goal
 

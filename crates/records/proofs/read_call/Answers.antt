@@ -1,4 +1,4 @@
-use Rattle.records.specs.PartLaws.{no_head, no_count, no_coefficients, no_rule, call_is, if_place, room_for, method_fits, filled_place}
+use Rattle.records.proofs.PartLaws.{no_head, no_count, no_coefficients, no_rule, call_is, if_place, room_for, method_fits, filled_place}
 use borrow.Author.Rules.{rules}
 use Rattle.records.proofs.read_call.Goals as goal
 

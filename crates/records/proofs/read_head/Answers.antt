@@ -1,4 +1,4 @@
-use Rattle.records.specs.PartLaws.{no_first, old_head, no_second, no_method, new_head}
+use Rattle.records.proofs.PartLaws.{no_first, old_head, no_second, no_method, new_head}
 use Rattle.records.proofs.read_head.Goals as goal
 
 pub returns-in_default : goal.returns-in_default

@@ -1,4 +1,4 @@
-use Rattle.records.specs.PartLaws.{no_steps, no_values, no_derivatives, no_mark, progress_is, byte_fits}
+use Rattle.records.proofs.PartLaws.{no_steps, no_values, no_derivatives, no_mark, progress_is, byte_fits}
 use borrow.Author.Rules.{rules}
 use Rattle.records.proofs.read_progress.Goals as goal
 

@@ -1,4 +1,4 @@
-use Rattle.records.specs.PartLaws.{no_starts, no_tolerances, no_limit, rule_is, few_starts}
+use Rattle.records.proofs.PartLaws.{no_starts, no_tolerances, no_limit, rule_is, few_starts}
 use borrow.Author.Rules.{rules}
 use Rattle.records.proofs.read_rule.Goals as goal
 

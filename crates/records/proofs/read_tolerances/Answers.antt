@@ -1,4 +1,4 @@
-use Rattle.records.specs.PartLaws.{no_value, one_tolerance, no_point, two_tolerances}
+use Rattle.records.proofs.PartLaws.{no_value, one_tolerance, no_point, two_tolerances}
 use Rattle.records.proofs.read_tolerances.Goals as goal
 
 pub returns-in_default : goal.returns-in_default

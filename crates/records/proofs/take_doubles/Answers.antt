@@ -1,6 +1,6 @@
 use borrow.Author.Rules.{rules}
 use mathlib.Core.Path.{refl}
-use Rattle.records.specs.ReadLaws.{fill_starts, fill_none, fill_on, fill_done}
+use Rattle.records.proofs.ReadLaws.{fill_starts, fill_none, fill_on, fill_done}
 use Rattle.records.proofs.take_doubles.Goals as goal
 
 pub loop-i-init : goal.loop-i-init

@@ -1,4 +1,4 @@
-use Rattle.records.specs.ReadLaws.{tolerance_none, tolerance_low, tolerance_is}
+use Rattle.records.proofs.ReadLaws.{tolerance_none, tolerance_low, tolerance_is}
 use Rattle.records.proofs.take_tolerance.Goals as goal
 
 pub returns-in_default : goal.returns-in_default

@@ -1,4 +1,4 @@
-use Rattle.records.specs.ReadLaws.{tests}
+use Rattle.records.proofs.ReadLaws.{tests}
 use Rattle.records.proofs.take_within.Goals as goal
 
 pub returns-in_default : goal.returns-in_default

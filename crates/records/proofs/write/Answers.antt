@@ -1,4 +1,4 @@
-use Rattle.records.specs.WriteLaws.{count_is, room_is, no_room_for_both, not_whole, no_room, written}
+use Rattle.records.proofs.WriteLaws.{count_is, room_is, no_room_for_both, not_whole, no_room, written}
 use Rattle.records.proofs.write.Goals as goal
 
 pub returns-then-not-holds_both : goal.returns-then-not-holds_both

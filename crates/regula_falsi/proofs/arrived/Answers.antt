@@ -1,5 +1,5 @@
-use Rattle.numerical.specs.TallyLaws.{room}
-use Rattle.searching.specs.StepLaws.{steps}
+use Rattle.numerical.proofs.TallyLaws.{room}
+use Rattle.searching.proofs.StepLaws.{steps}
 use Rattle.regula_falsi.specs.RegulaFalsi.{arrived}
 use borrow.Author.Rules.{rules}
 use Rattle.regula_falsi.proofs.arrived.Goals as goal

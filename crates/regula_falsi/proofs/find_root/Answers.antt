@@ -1,6 +1,6 @@
-use Rattle.numerical.specs.TallyLaws.{room}
+use Rattle.numerical.proofs.TallyLaws.{room}
 use Rattle.searching.specs.LoopLaws.{opened_room}
-use Rattle.regula_falsi.specs.RegulaFalsiLaws.{from_end, from_state, small_opening}
+use Rattle.regula_falsi.proofs.RegulaFalsiLaws.{from_end, from_state, small_opening}
 use native.Mathlib.Omega.{arith}
 use borrow.Author.Rules.{rules}
 use Rattle.regula_falsi.proofs.find_root.Goals as goal

@@ -1,4 +1,4 @@
-use Rattle.searching.specs.StepLaws.{steps}
+use Rattle.searching.proofs.StepLaws.{steps}
 use Rattle.regula_falsi.specs.RegulaFalsi.{first_at}
 use borrow.Author.Rules.{rules}
 use Rattle.regula_falsi.proofs.first_at.Goals as goal

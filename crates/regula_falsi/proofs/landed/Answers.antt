@@ -1,6 +1,6 @@
 use Rattle.regula_falsi.specs.RegulaFalsi.{landed}
-use Rattle.searching.specs.StepLaws.{steps}
-use Rattle.numerical.specs.TallyLaws.{room}
+use Rattle.searching.proofs.StepLaws.{steps}
+use Rattle.numerical.proofs.TallyLaws.{room}
 use borrow.Author.Rules.{rules}
 use Rattle.regula_falsi.proofs.landed.Goals as goal
 

@@ -1,4 +1,4 @@
-use Rattle.searching.specs.StepLaws.{by_rising}
+use Rattle.searching.proofs.StepLaws.{by_rising}
 use Rattle.regula_falsi.specs.RegulaFalsi.{opening}
 use borrow.Author.Rules.{rules}
 use Rattle.regula_falsi.proofs.opening.Goals as goal

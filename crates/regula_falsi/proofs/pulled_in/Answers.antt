@@ -1,6 +1,6 @@
 use Rattle.regula_falsi.specs.RegulaFalsi.{pulled_in}
-use Rattle.searching.specs.StepLaws.{steps}
-use Rattle.searching.specs.RuleLaws.{rules_room}
+use Rattle.searching.proofs.StepLaws.{steps}
+use Rattle.searching.proofs.RuleLaws.{rules_room}
 use borrow.Author.Rules.{rules}
 use Rattle.regula_falsi.proofs.pulled_in.Goals as goal
 

@@ -1,4 +1,4 @@
-use Rattle.numerical.specs.Choices.{choices}
+use Rattle.numerical.proofs.Choices.{choices}
 use Rattle.regula_falsi.specs.RegulaFalsi.{replaced_of}
 use borrow.Author.Rules.{rules}
 use Rattle.regula_falsi.proofs.replaced.Goals as goal

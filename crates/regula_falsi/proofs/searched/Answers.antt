@@ -1,5 +1,5 @@
 use Rattle.searching.specs.LoopLaws.{Loops, run_of, loops_first, loops_next, loops_room, loops_ended, loops_out}
-use Rattle.regula_falsi.specs.RegulaFalsiLaws.{turns}
+use Rattle.regula_falsi.proofs.RegulaFalsiLaws.{turns}
 use Rattle.regula_falsi.specs.RegulaFalsi.{turn_from}
 use Prim.Native.Nat.{◌-◌}
 use native.Mathlib.Omega.{arith}

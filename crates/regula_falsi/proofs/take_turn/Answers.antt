@@ -1,4 +1,4 @@
-use Rattle.searching.specs.StepLaws.{steps}
+use Rattle.searching.proofs.StepLaws.{steps}
 use Rattle.regula_falsi.specs.RegulaFalsi.{turn_from}
 use borrow.Author.Rules.{rules}
 use Rattle.regula_falsi.proofs.take_turn.Goals as goal

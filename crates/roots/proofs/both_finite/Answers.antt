@@ -1,6 +1,6 @@
-use Rattle.numerical.specs.Choices.{choices}
+use Rattle.numerical.proofs.Choices.{choices}
 use Rattle.roots.specs.Calls.{all_finite}
-use Rattle.roots.specs.CallLaws.{one_finite}
+use Rattle.roots.proofs.CallLaws.{one_finite}
 use borrow.Author.Rules.{rules}
 use Rattle.roots.proofs.both_finite.Goals as goal
 

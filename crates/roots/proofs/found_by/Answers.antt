@@ -1,4 +1,4 @@
-use Rattle.roots.specs.CallLaws.{by_method}
+use Rattle.roots.proofs.CallLaws.{by_method}
 use borrow.Author.Rules.{rules}
 use Rattle.roots.proofs.found_by.Goals as goal
 

@@ -1,4 +1,4 @@
-use Rattle.numerical.specs.Choices.{choices}
+use Rattle.numerical.proofs.Choices.{choices}
 use Rattle.roots.specs.Calls.{bad_count}
 use Rattle.roots.proofs.is_bad_count.Goals as goal
 

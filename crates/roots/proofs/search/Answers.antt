@@ -1,6 +1,6 @@
 use borrow.Author.Rules.{rules}
 use borrow.Author.Tests.{not-true, not-false}
-use Rattle.roots.specs.CallLaws.{count_refused, coefficient_refused, start_refused, by_rule, by_refusal, limit_kept}
+use Rattle.roots.proofs.CallLaws.{count_refused, coefficient_refused, start_refused, by_rule, by_refusal, limit_kept}
 use Rattle.roots.proofs.search.Goals as goal
 
 pub returns-then-is_bad_count : goal.returns-then-is_bad_count

@@ -1,4 +1,4 @@
-use Rattle.roots.specs.CallLaws.{by_starts, one_finite}
+use Rattle.roots.proofs.CallLaws.{by_starts, one_finite}
 use borrow.Author.Rules.{rules}
 use Rattle.roots.proofs.starts_finite.Goals as goal
 

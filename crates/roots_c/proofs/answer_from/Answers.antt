@@ -1,4 +1,4 @@
-use Rattle.roots_c.specs.FlatRecordLaws.{by_value, by_width, kind_low, kind_high, kind_refused}
+use Rattle.roots_c.proofs.FlatRecordLaws.{by_value, by_width, kind_low, kind_high, kind_refused}
 use Rattle.roots_c.proofs.answer_from.Goals as goal
 
 pub returns-then-kind-eq0 : goal.returns-then-kind-eq0

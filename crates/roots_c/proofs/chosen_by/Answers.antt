@@ -1,4 +1,4 @@
-use Rattle.numerical.specs.Choices.{choices}
+use Rattle.numerical.proofs.Choices.{choices}
 use Rattle.roots_c.specs.Flat.{chosen_by}
 use Rattle.roots_c.proofs.chosen_by.Goals as goal
 

@@ -1,4 +1,4 @@
-use Rattle.roots_c.specs.FlatRecordLaws.{copied_none, copied_on, copied_all, copied_full}
+use Rattle.roots_c.proofs.FlatRecordLaws.{copied_none, copied_on, copied_all, copied_full}
 use Rattle.roots_c.proofs.copied.Goals as goal
 
 pub loop-i-init : goal.loop-i-init

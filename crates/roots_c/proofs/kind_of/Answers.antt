@@ -1,4 +1,4 @@
-use Rattle.roots_c.specs.FlatLaws.{by_kind}
+use Rattle.roots_c.proofs.FlatLaws.{by_kind}
 use Rattle.roots_c.proofs.kind_of.Goals as goal
 
 pub returns-in-Refused : goal.returns-in-Refused

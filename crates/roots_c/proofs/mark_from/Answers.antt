@@ -1,5 +1,5 @@
 use Rattle.roots_c.specs.FlatRecords.{mark_from}
-use Rattle.numerical.specs.Choices.{choices}
+use Rattle.numerical.proofs.Choices.{choices}
 use Rattle.roots_c.proofs.mark_from.Goals as goal
 
 pub returns-then-mark-gt2 : goal.returns-then-mark-gt2

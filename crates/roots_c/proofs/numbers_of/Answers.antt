@@ -1,4 +1,4 @@
-use Rattle.roots_c.specs.FlatLaws.{by_numbers}
+use Rattle.roots_c.proofs.FlatLaws.{by_numbers}
 use Rattle.roots_c.proofs.numbers_of.Goals as goal
 
 pub returns-in-ByValue : goal.returns-in-ByValue

@@ -1,4 +1,4 @@
-use Rattle.roots_c.specs.FlatLaws.{by_chosen}
+use Rattle.roots_c.proofs.FlatLaws.{by_chosen}
 use Rattle.roots_c.proofs.outcome_of.Goals as goal
 
 pub returns-in-Known : goal.returns-in-Known

@@ -1,4 +1,4 @@
-use Rattle.roots_c.specs.FlatRecordLaws.{by_points}
+use Rattle.roots_c.proofs.FlatRecordLaws.{by_points}
 use Rattle.roots_c.proofs.points_of.Goals as goal
 
 pub returns-in-Brent : goal.returns-in-Brent

@@ -1,4 +1,4 @@
-use Rattle.roots_c.specs.FlatRecordLaws.{the_read_refusal, the_read_coefficients, the_read_points, the_read_numbers, the_read_tallies, the_read_words}
+use Rattle.roots_c.proofs.FlatRecordLaws.{the_read_refusal, the_read_coefficients, the_read_points, the_read_numbers, the_read_tallies, the_read_words}
 use Rattle.roots_c.proofs.roots_record_read.Goals as goal
 
 pub returns : goal.returns

@@ -1,4 +1,4 @@
-use Rattle.roots_c.specs.FlatRecordLaws.{outcome_is, the_refusal, the_bytes, the_length}
+use Rattle.roots_c.proofs.FlatRecordLaws.{outcome_is, the_refusal, the_bytes, the_length}
 use Rattle.roots_c.proofs.roots_record_write.Goals as goal
 
 pub returns : goal.returns

@@ -1,4 +1,4 @@
-use Rattle.roots_c.specs.FlatLaws.{the_kind, the_numbers, the_tallies}
+use Rattle.roots_c.proofs.FlatLaws.{the_kind, the_numbers, the_tallies}
 use Rattle.roots_c.proofs.roots_search.Goals as goal
 
 pub returns : goal.returns

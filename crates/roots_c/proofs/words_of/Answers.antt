@@ -1,4 +1,4 @@
-use Rattle.roots_c.specs.FlatRecordLaws.{some_words, no_words}
+use Rattle.roots_c.proofs.FlatRecordLaws.{some_words, no_words}
 use Rattle.roots_c.proofs.words_of.Goals as goal
 
 pub returns-in-Bytes : goal.returns-in-Bytes

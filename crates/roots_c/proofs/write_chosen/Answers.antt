@@ -1,4 +1,4 @@
-use Rattle.roots_c.specs.FlatRecordLaws.{known_writes, unknown_writes}
+use Rattle.roots_c.proofs.FlatRecordLaws.{known_writes, unknown_writes}
 use Rattle.roots_c.proofs.write_chosen.Goals as goal
 
 pub returns-in-Known : goal.returns-in-Known

@@ -1,4 +1,4 @@
-use Rattle.rows.specs.TakeLaws.{tenth_ends, tenth_is, tenth_passes}
+use Rattle.rows.proofs.TakeLaws.{tenth_ends, tenth_is, tenth_passes}
 use borrow.Author.Rules.{rules}
 use Rattle.rows.proofs.take_tenth.Reads as reads
 use Rattle.rows.proofs.take_tenth.Lts as lts

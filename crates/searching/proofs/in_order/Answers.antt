@@ -1,4 +1,4 @@
-use Rattle.numerical.specs.Choices.{choices}
+use Rattle.numerical.proofs.Choices.{choices}
 use Rattle.searching.proofs.in_order.Goals as goal
 
 pub returns-then-from-to : goal.returns-then-from-to

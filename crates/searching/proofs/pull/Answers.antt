@@ -1,5 +1,5 @@
 -- `searching::pull` meets its contract. Assumes nothing.
-use Rattle.searching.specs.RuleLaws.{placed_outside, placed_inside}
+use Rattle.searching.proofs.RuleLaws.{placed_outside, placed_inside}
 use borrow.Author.Rules.{rules}
 use Rattle.searching.proofs.pull.Goals as goal
 

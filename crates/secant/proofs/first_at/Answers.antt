@@ -1,4 +1,4 @@
-use Rattle.searching.specs.StepLaws.{steps, by_missed, by_no_value}
+use Rattle.searching.proofs.StepLaws.{steps, by_missed, by_no_value}
 use Rattle.secant.specs.Secant.{first_at}
 use borrow.Author.Rules.{rules}
 use Rattle.secant.proofs.first_at.Goals as goal

@@ -1,5 +1,5 @@
-use Rattle.searching.specs.StepLaws.{steps}
-use Rattle.numerical.specs.TallyLaws.{room}
+use Rattle.searching.proofs.StepLaws.{steps}
+use Rattle.numerical.proofs.TallyLaws.{room}
 use Rattle.secant.specs.Secant.{landed}
 use borrow.Author.Rules.{rules}
 use Rattle.secant.proofs.landed.Goals as goal

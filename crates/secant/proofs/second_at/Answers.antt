@@ -1,4 +1,4 @@
-use Rattle.searching.specs.StepLaws.{steps}
+use Rattle.searching.proofs.StepLaws.{steps}
 use Rattle.secant.specs.Secant.{second_at}
 use borrow.Author.Rules.{rules}
 use Rattle.secant.proofs.second_at.Goals as goal

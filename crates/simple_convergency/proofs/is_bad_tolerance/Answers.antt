@@ -1,4 +1,4 @@
-use Rattle.numerical.specs.Choices.{choices}
+use Rattle.numerical.proofs.Choices.{choices}
 use Rattle.simple_convergency.specs.Stop.{bad_tolerance}
 use borrow.Author.Rules.{rules}
 use Rattle.simple_convergency.proofs.is_bad_tolerance.Goals as goal

@@ -1,4 +1,4 @@
-use Rattle.searching.specs.StepLaws.{steps}
+use Rattle.searching.proofs.StepLaws.{steps}
 use Rattle.walking.specs.Walking.{seen_at}
 use borrow.Author.Rules.{rules}
 use Rattle.walking.proofs.seen_at.Goals as goal

@@ -1,6 +1,6 @@
-use Rattle.searching.specs.StepLaws.{steps}
+use Rattle.searching.proofs.StepLaws.{steps}
 use Rattle.walking.specs.Walking.{turn_from}
-use Rattle.numerical.specs.TallyLaws.{room}
+use Rattle.numerical.proofs.TallyLaws.{room}
 use borrow.Author.Rules.{rules}
 use Rattle.walking.proofs.take_turn.Goals as goal
 

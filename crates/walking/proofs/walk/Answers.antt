@@ -1,5 +1,5 @@
-use Rattle.numerical.specs.TallyLaws.{room}
-use Rattle.walking.specs.WalkingLaws.{from_start}
+use Rattle.numerical.proofs.TallyLaws.{room}
+use Rattle.walking.proofs.WalkingLaws.{from_start}
 use native.Mathlib.Omega.{arith}
 use borrow.Author.Rules.{rules}
 use Rattle.walking.proofs.walk.Goals as goal

@@ -1,5 +1,5 @@
 use borrow.Author.Rules.{rules}
-use Rattle.numerical.specs.Choices.{choices}
+use Rattle.numerical.proofs.Choices.{choices}
 use Rattle.line_text.specs.Calls.{method_number}
 use Rattle.line_text.proofs.call.method_number.Statement.{statement}
 use Rattle.line_text.proofs.call.method_number.Tie as tie

@@ -1,4 +1,4 @@
-use Rattle.numerical.specs.Choices.{choices}
+use Rattle.numerical.proofs.Choices.{choices}
 use Rattle.line_text.specs.Calls.{method_of}
 use Rattle.line_text.proofs.call.method_of.Statement.{statement}
 use Rattle.line_text.proofs.call.method_of.Tie as tie

@@ -1,5 +1,5 @@
 use borrow.Author.Rules.{rules}
-use Rattle.numerical.specs.Choices.{choices}
+use Rattle.numerical.proofs.Choices.{choices}
 use Rattle.line_text.specs.Calls.{start_count}
 use Rattle.line_text.proofs.call.start_count.Statement.{statement}
 use Rattle.line_text.proofs.call.start_count.Tie as tie

@@ -1,5 +1,5 @@
 use borrow.Author.Rules.{rules}
-use Rattle.numerical.specs.Choices.{choices}
+use Rattle.numerical.proofs.Choices.{choices}
 use Rattle.line_text.specs.Digits.{digit_of}
 use Rattle.line_text.proofs.digits.digit.Statement.{statement}
 use Rattle.line_text.proofs.digits.digit.Tie as tie

@@ -1,5 +1,5 @@
 use borrow.Author.Rules.{rules}
-use Rattle.numerical.specs.Choices.{choices}
+use Rattle.numerical.proofs.Choices.{choices}
 use Rattle.line_text.specs.Digits.{word_of}
 use Rattle.line_text.proofs.digits.word.Statement.{statement}
 use Rattle.line_text.proofs.digits.word.Tie as tie

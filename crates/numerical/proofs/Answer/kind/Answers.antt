@@ -1,4 +1,4 @@
-use Rattle.numerical.specs.AnswerLaws.{by_kind}
+use Rattle.numerical.proofs.AnswerLaws.{by_kind}
 use borrow.Author.Rules.{rules}
 use Rattle.numerical.proofs.Answer.kind.Goals as goal
 

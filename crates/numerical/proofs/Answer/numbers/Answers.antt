@@ -1,4 +1,4 @@
-use Rattle.numerical.specs.AnswerLaws.{by_numbers}
+use Rattle.numerical.proofs.AnswerLaws.{by_numbers}
 use borrow.Author.Rules.{rules}
 use Rattle.numerical.proofs.Answer.numbers.Goals as goal
 

@@ -1,4 +1,4 @@
-use Rattle.numerical.specs.Choices.{choices}
+use Rattle.numerical.proofs.Choices.{choices}
 use Rattle.numerical.specs.Middle.{crosses}
 use borrow.Author.Rules.{rules}
 use Rattle.numerical.proofs.Interval.crosses.Goals as goal

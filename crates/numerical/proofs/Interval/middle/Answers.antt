@@ -2,7 +2,7 @@
 use mathlib.Core.Path.{◌≡◌}
 use lib.Ieee.{Float, binary64, add}
 use borrow.Author.Rules.{rules}
-use Rattle.numerical.specs.Choices.{choices}
+use Rattle.numerical.proofs.Choices.{choices}
 use Rattle.numerical.specs.Middle.{at_least, at_most, middle_of}
 use Rattle.numerical.proofs.Interval.middle.Goals as goal
 

@@ -1,5 +1,5 @@
 use borrow.Author.Rules.{rules}
-use Rattle.playback.specs.PlaybackLaws.{last_field}
+use Rattle.playback.proofs.PlaybackLaws.{last_field}
 use Rattle.playback.proofs.Field.at.Statement.{statement}
 use Rattle.playback.proofs.Field.at.Tie as tie
 

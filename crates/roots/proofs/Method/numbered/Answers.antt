@@ -1,4 +1,4 @@
-use Rattle.numerical.specs.Choices.{choices}
+use Rattle.numerical.proofs.Choices.{choices}
 use Rattle.roots.specs.Methods.{method_of}
 use Rattle.roots.proofs.Method.numbered.Goals as goal
 

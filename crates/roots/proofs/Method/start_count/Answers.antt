@@ -1,4 +1,4 @@
-use Rattle.numerical.specs.Choices.{choices}
+use Rattle.numerical.proofs.Choices.{choices}
 use Rattle.roots.specs.Methods.{start_count}
 use Rattle.roots.proofs.Method.start_count.Goals as goal
 

@@ -1,0 +1,4 @@
+-- The laws about what specs/ defines, and the lemmas of the proofs.
+pub mod Choices
+pub mod TallyLaws
+pub mod AnswerLaws

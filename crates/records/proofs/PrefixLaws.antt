@@ -1,0 +1,104 @@
+-- What follows a record does not change it, and what is no record within as many bytes as the longest has is none whatever follows.
+use Rattle.std.specs.Prelude.{ℕ, ◌+◌, ◌-◌, ◌/◌, ◌%◌, ◌≤◌, ◌<◌, Bool, true, false, cond, ltb}
+use native.Mathlib.Omega.{arith}
+use mathlib.Core.List.{List, [], ◌∷◌, ◌++◌, append_assoc}
+use Rattle.std.proofs.Math.Path.{◌≡◌, refl, sym, ap}
+use Rattle.std.proofs.Common.{◌∙◌, take-append-drop}
+use Rattle.std.proofs.Math.ListN.{length, take, drop, length-append}
+use Rattle.std.proofs.lemmas.List.{take-append-le}
+use Rattle.std.proofs.Math.Seq.{take-append_seam}
+use Rattle.rows.specs.Groups.{groups, groups_in}
+use Rattle.rows.specs.Layouts.{Layout, number, spell, Read, held, wrong, read, Row, and_then}
+use Rattle.rows.proofs.LayoutLaws.{row_fits, row_back, row_only, none_right}
+use Rattle.records.specs.Records.{headed, record_layout, longest_record, told, reading_of}
+use Rattle.records.proofs.BackLaws.{at_most_longest}
+use Rattle.records.specs.declared.Record.{Record}
+use Rattle.records.specs.declared.Verdict.TheVariants as verdict
+
+-- ---- a record has a byte at least
+
+some_groups : (n : ℕ) → 0 < length (groups n)
+unfolding groups
+some_groups n = go (ltb n 128)
+  where
+    go : (b : Bool) → 0 < length (cond b (n ∷ []) ((n % 128 + 128) ∷ groups_in 8 (n / 128)))
+    go true = omega arith
+    go false = omega arith
+
+some_bytes : {A : Type 0} {ok : ℕ → Bool} {next : ℕ → Layout A} {l : List ℕ} {x : A} → Row (number ok next) l x → 0 < length (spell l)
+unfolding spell
+some_bytes (and_then {n = n} {row = row} small right later) = rw (length-append (groups n) (spell row)) (let p = some_groups n in omega arith)
+
+record_some : (l : List ℕ) (x : Record) → Row record_layout l x → 0 < length (spell l)
+unfolding record_layout headed
+record_some l x r = some_bytes r
+
+-- ---- what a verdict tells of the bytes
+
+pub record Holds (s : List ℕ) (n : ℕ) (t : List ℕ) : Type 0 where
+  pub is : read record_layout s ≡ held (reading_of s).content t
+  pub count : n + length t ≡ length s
+  pub some : 0 < n
+
+module _ (s : List ℕ) {n : ℕ} where
+  pub bytes_hold : (reading_of s).verdict ≡ verdict.Bytes n → (t : List ℕ) × Holds s n t
+  unfolding reading_of
+  bytes_hold e = go (read record_layout s) refl e
+    where
+      go : (f : Read Record) → read record_layout s ≡ f → (told (length s) f).verdict ≡ verdict.Bytes n → (t : List ℕ) × Holds s n t
+      go wrong q z = absurd (let y : ◌≡◌ {A = ℕ} 0 1 = cc in omega arith)
+      go (held o t) q z =
+          let y : length s - length t ≡ n = cc in
+          let w = row_only record_layout s o t q in
+          let l = ap length w.is ∙ length-append (spell w.numbers) t in
+          let m = record_some w.numbers o w.row in
+          (t, record { is = rw q; count = omega arith; some = omega arith })
+
+  pub refused_wrong : (reading_of s).verdict ≡ verdict.Refused n → read record_layout s ≡ wrong
+  unfolding reading_of
+  refused_wrong e = go (read record_layout s) refl e
+    where
+      go : (f : Read Record) → read record_layout s ≡ f → (told (length s) f).verdict ≡ verdict.Refused n → read record_layout s ≡ wrong
+      go wrong q z = q
+      go (held o t) q z = absurd (let y : ◌≡◌ {A = ℕ} 0 1 = cc in omega arith)
+
+  pub refused_eleven : (reading_of s).verdict ≡ verdict.Refused n → n ≡ 11
+  unfolding reading_of
+  refused_eleven e = go (read record_layout s) e
+    where
+      go : (f : Read Record) → (told (length s) f).verdict ≡ verdict.Refused n → n ≡ 11
+      go wrong z = cc
+      go (held o t) z = absurd (let y : ◌≡◌ {A = ℕ} 0 1 = cc in omega arith)
+
+-- ---- more bytes
+
+module _ (s u : List ℕ) where
+  -- a record stays the same
+  pub record_stays : {n : ℕ} → (reading_of s).verdict ≡ verdict.Bytes n → reading_of (s ++ u) ≡ record { verdict = verdict.Bytes n; content = (reading_of s).content }
+  unfolding reading_of
+  record_stays {n} e = ap (told (length (s ++ u))) longer ∙ ap (λ (k : ℕ). record { verdict = verdict.Bytes k; content = (reading_of s).content }) count
+    where
+      h : (t : List ℕ) × Holds s n t
+      h = bytes_hold s e
+
+      longer : read record_layout (s ++ u) ≡ held (reading_of s).content (h.0 ++ u)
+      longer =
+          let w = row_only record_layout s (reading_of s).content h.0 h.1.is in
+          ap (λ (l : List ℕ). read record_layout (l ++ u)) w.is ∙ rw (append_assoc (spell w.numbers) h.0 u) (row_back w.row (h.0 ++ u))
+
+      count : length (s ++ u) - length (h.0 ++ u) ≡ n
+      count = rw (length-append s u, length-append h.0 u) (let c = h.1.count in omega arith)
+
+  -- what is refused with as many bytes at hand as the longest record has stays refused
+  pub refusal_stays : {n : ℕ} → longest_record ≤ length s → (reading_of s).verdict ≡ verdict.Refused n → (reading_of (s ++ u)).verdict ≡ verdict.Refused 11
+  unfolding reading_of
+  refusal_stays h e = go (read record_layout (s ++ u)) refl
+    where
+      go : (f : Read Record) → read record_layout (s ++ u) ≡ f → (told (length (s ++ u)) f).verdict ≡ verdict.Refused 11
+      go wrong q = refl
+      go (held o t) q =
+          let w = row_only record_layout (s ++ u) o t q in
+          let m = at_most_longest w.row in
+          let front : take (length (spell w.numbers)) s ≡ spell w.numbers = sym (take-append-le (length (spell w.numbers)) s u (omega arith)) ∙ ap (take (length (spell w.numbers))) w.is ∙ take-append_seam (spell w.numbers) t in
+          let split : s ≡ spell w.numbers ++ drop (length (spell w.numbers)) s = sym (take-append-drop (length (spell w.numbers)) s) ∙ ap (λ (l : List ℕ). l ++ drop (length (spell w.numbers)) s) front in
+          absurd (none_right record_layout s (refused_wrong s e) w.numbers (drop (length (spell w.numbers)) s) (row_fits w.row) split)

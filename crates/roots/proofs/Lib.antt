@@ -1,0 +1,2 @@
+-- The laws about what specs/ defines, and the lemmas of the proofs.
+pub mod CallLaws
