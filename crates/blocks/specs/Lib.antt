@@ -1,3 +1,4 @@
 -- What the contracts of `blocks` cite.
 pub mod Blocks
+
 -- what proofs cite

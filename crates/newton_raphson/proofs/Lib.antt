@@ -3,4 +3,4 @@ pub mod NewtonRaphsonEvents
 pub mod NewtonRaphsonKeeps
 pub mod NewtonRaphsonLaws
 pub mod NewtonRaphsonTraces
-pub mod Nudge
+pub mod NudgeLaws

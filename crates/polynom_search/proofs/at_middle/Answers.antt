@@ -17,6 +17,6 @@ returns-then-in_pair c = search (by_newton, steps, c.closer.ensures)
 pub returns : goal.returns
 returns c =
     elim c.if-v.branch [
-      then-v+else-in_pair w ↦ search (by_no_newton, c.chosen.ensures)
-    | else-v w ↦ search (by_no_slope, c.chosen.ensures)
+      | then-v+else-in_pair w ↦ search (by_no_newton, c.chosen.ensures)
+      | else-v w ↦ search (by_no_slope, c.chosen.ensures)
     ]
