@@ -9,10 +9,7 @@ use Rattle.std.specs.Float.Ieee.Fits.{down_pos, eq→eqb, and_i, and_l, and_r}
 use Rattle.std.specs.Float.Ieee.Bits.{is_false}
 use Rattle.std.specs.Float.Ieee.Scale.{finite}
 use Rattle.doubles.specs.Doubles.{clamp, beyond}
-
--- a number, be it finite or infinite
-abbrev pub Num : Float → Type 0
-Num x = T (not (is_nan x))
+use Rattle.doubles.specs.Compare.{Num, Like}
 
 -- ---- tests
 
@@ -54,10 +51,6 @@ ltb_or_eqb i j = go (ltb j i) (ltb→lt j i) (nltb→le j i)
     go false f g = elim (eq-or-lt_of_le (g tt)) [ inl e ↦ rw (eq-eqb i j e) (or-true (ltb i j)) | inr l ↦ rw (lt-ltb i j l) ]
 
 -- ---- a sign and a size
-
--- a and b stand to each other, and to 0, as u and v do
-abbrev pub Like : ℕ → ℕ → ℕ → ℕ → Type 0
-Like a b u v = (a < b ↔ u < v) × (b < a ↔ v < u) × (0 < a ↔ 0 < u) × (0 < b ↔ 0 < v)
 
 plus : (a b u v : ℕ) → (0 < a → 0 < u) → (0 < b → 0 < v) → 0 < a + b → 0 < u + v
 plus zero zero u v p q h = omega arith

@@ -15,7 +15,8 @@ use Rattle.std.specs.Float.Ieee.Bits.{is_true, is_false, of_bits-to_bits, to_bit
 use Rattle.std.specs.Float.Ieee.Scale.{finite}
 use Rattle.std.proofs.lemmas.Bool.{not-true, eqb-false, lt-leb}
 use Rattle.doubles.specs.Doubles.{nought, exponent_width, exponent_all_ones, signed63, order_of, pattern_of, of_order}
-use Rattle.doubles.proofs.Compare.{Like, same_test, of_true, eqb_iff, below_like, below_scaled, finite_num, lt_not_le, eq_both}
+use Rattle.doubles.specs.Compare.{Like}
+use Rattle.doubles.proofs.Compare.{same_test, of_true, eqb_iff, below_like, below_scaled, finite_num, lt_not_le, eq_both}
 
 -- ---- finite, by the exponent's bits
 

@@ -4,7 +4,8 @@ use Rattle.std.proofs.Common.{sym, ◌∙◌, subst, inl, inr, true≢false}
 use Rattle.std.specs.Float.Ieee.{lt, le}
 use Rattle.std.specs.Float.Ieee.Bits.{is_true}
 use Rattle.doubles.specs.Doubles.{order_of, clamp, beyond, pulled, lower, higher, outside}
-use Rattle.doubles.proofs.Compare.{Num, of_true, same_test, le_nums, le_refl, le_trans, le_total, lt→le, no_lt_le, lt_le_trans, le_lt_trans, clamp_between, clamp_inside, clamp_one, beyond_inside}
+use Rattle.doubles.specs.Compare.{Num}
+use Rattle.doubles.proofs.Compare.{of_true, same_test, le_nums, le_refl, le_trans, le_total, lt→le, no_lt_le, lt_le_trans, le_lt_trans, clamp_between, clamp_inside, clamp_one, beyond_inside}
 use Rattle.doubles.proofs.Number.{Double, le_order}
 
 -- between two points, ends included, whichever is the smaller

@@ -6,7 +6,8 @@ use Rattle.std.proofs.Math.Bool.{and_comm, and-false, or-true}
 use Rattle.std.specs.Float.Ieee.{lt, neg}
 use Rattle.std.specs.Float.Ieee.Bits.{is_true}
 use Rattle.doubles.specs.Doubles.{nought, absolute, above, below, same_sign, opposite_sign}
-use Rattle.doubles.proofs.Compare.{Num, of_true, le_nums, le_no_lt, no_lt_le, lt→le, lt_le_trans}
+use Rattle.doubles.specs.Compare.{Num}
+use Rattle.doubles.proofs.Compare.{of_true, le_nums, le_no_lt, no_lt_le, lt→le, lt_le_trans}
 
 -- No float is both above and below zero.
 pub one_side : (x : Float) → above x && below x ≡ false

@@ -1,2 +1,3 @@
 -- What the contracts of `doubles` cite.
 pub mod Doubles
+pub mod Compare

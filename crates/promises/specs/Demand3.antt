@@ -11,7 +11,7 @@ use Rattle.numerical.specs.declared.Answer.TheVariants.{ByValue, ByWidth, Refuse
 use Rattle.numerical.specs.declared.Outcome.{Outcome}
 use Rattle.numerical.specs.declared.Sample.{Sample}
 use Rattle.polynom.specs.Polynom.{value}
-use Rattle.polynom.specs.Terms.{value_not_minus}
+use Rattle.polynom.proofs.TermLaws.{value_not_minus}
 use Rattle.searching.specs.Brackets.{pairs_in, Narrows}
 use Rattle.searching.specs.Events.{evaluations_in, signs_missed, Each, BeforePairs}
 use Rattle.searching.specs.Histories.{steps_in}

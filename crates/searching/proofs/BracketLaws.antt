@@ -5,7 +5,8 @@ use mathlib.Core.List.{List, [], ◌∷◌}
 use Rattle.std.proofs.Math.Path.{refl, ap}
 use Rattle.std.specs.Float.Ieee.Bits.{is_true}
 use Rattle.std.specs.Float.Ieee.Scale.{finite}
-use Rattle.doubles.proofs.Compare.{Num, finite_num}
+use Rattle.doubles.specs.Compare.{Num}
+use Rattle.doubles.proofs.Compare.{finite_num}
 use Rattle.doubles.specs.Doubles.{same_sign, pulled}
 use Rattle.doubles.proofs.Number.{Double}
 use Rattle.doubles.proofs.Signs.{same_symmetric}

@@ -8,7 +8,7 @@ use Rattle.numerical.specs.declared.Answer.TheVariants.{Refused}
 use Rattle.numerical.specs.declared.Sample.{Sample}
 use Rattle.simple_convergency.specs.declared.StopRule.{StopRule}
 use Rattle.polynom.specs.Polynom.{value, value_and_derivative, evaluated, evaluated_both, sample_of}
-use Rattle.polynom.specs.Terms.{same_value}
+use Rattle.polynom.proofs.TermLaws.{same_value}
 use Rattle.polynom.specs.declared.ValueAndDerivative.{ValueAndDerivative}
 use Rattle.polynom.specs.declared.Evaluated.TheVariants.{At, NotFinite}
 use Rattle.polynom.specs.declared.EvaluatedBoth.TheVariants.{Both, NotBothFinite}

@@ -3,7 +3,7 @@ use borrow.Author.Rules.{rules}
 use native.Mathlib.Omega.{arith}
 use Prim.Native.Nat.{◌+◌, ◌-◌}
 use lib.ListN.{length}
-use Rattle.polynom.specs.Terms.{sums_none}
+use Rattle.polynom.proofs.TermLaws.{sums_none}
 use Rattle.polynom.proofs.begun.Goals as goal
 
 pub one_more-requires : goal.one_more-requires

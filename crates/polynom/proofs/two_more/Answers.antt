@@ -2,7 +2,7 @@
 use borrow.Author.Rules.{rules}
 use native.Mathlib.Omega.{arith}
 use Prim.Native.Nat.{◌+◌}
-use Rattle.polynom.specs.Terms.{sums_at}
+use Rattle.polynom.proofs.TermLaws.{sums_at}
 use Rattle.polynom.proofs.two_more.Goals as goal
 
 pub one_more-requires : goal.one_more-requires
