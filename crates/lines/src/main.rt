@@ -4,8 +4,8 @@
 
 ghost use Rattle.line_text.specs.Inputs.{Idle, Begun};
 
-use libc::{STDIN_FILENO, STDOUT_FILENO};
 use line_text::input::State;
+use std::io::{Read, Stdin, Stdout, Write};
 
 // Where things stand between two blocks, and whether to go on.
 #[derive(Clone, Copy)]
@@ -14,8 +14,13 @@ struct Turn {
     is_open: bool,
 }
 
+// Writes replies, and tells whether all of them could be written.
+fn written(mut output: Stdout, replies: &[u8]) -> bool {
+    output.write_all(replies).is_ok()
+}
+
 // Answers the lines of a block. Each time the replies have filled their buffer they are written.
-fn answered(block: &[u8], line: &mut [u8], out: &mut [u8], start: State) -> Turn
+fn answered(output: Stdout, block: &[u8], line: &mut [u8], out: &mut [u8], start: State) -> Turn
     requires { Idle line.old out.old start }
     ensures idle { Idle line.new out.new result.state }
     ensures begun { Begun block.now line.old start line.new result.is_open result.state }
@@ -25,7 +30,7 @@ fn answered(block: &[u8], line: &mut [u8], out: &mut [u8], start: State) -> Turn
     while at < block.len() {
         let p = line_text::input::fed(block, at, line, out, s);
         let waiting = p.state.waiting;
-        let is_written = io::write_all(STDOUT_FILENO, &out[..waiting]);
+        let is_written = written(output, &out[..waiting]);
         s = State {
             kept: p.state.kept,
             is_long: p.state.is_long,
@@ -46,14 +51,14 @@ fn answered(block: &[u8], line: &mut [u8], out: &mut [u8], start: State) -> Turn
 }
 
 // At the input's end: the last line may lack its line feed.
-fn closed(line: &[u8], out: &mut [u8], s: State) -> Turn
+fn closed(output: Stdout, line: &[u8], out: &mut [u8], s: State) -> Turn
     requires { Idle line.now out.old s }
     ensures { Idle line.now out.new result.state }
 {
     let kept = s.kept;
     if 0 < kept {
         let end = line_text::reply::put_line(&line[..kept], s.is_long, out, 0);
-        io::write_all(STDOUT_FILENO, &out[..end]);
+        written(output, &out[..end]);
     }
     Turn {
         state: s,
@@ -61,23 +66,24 @@ fn closed(line: &[u8], out: &mut [u8], s: State) -> Turn
     }
 }
 
-// Reads a block and answers its lines.
-fn read_block(line: &mut [u8], out: &mut [u8], s: State) -> Turn
+// Reads a block, of as many bytes as have come, and answers its lines. A read that fails counts as the input's end.
+fn read_block(mut input: Stdin, output: Stdout, line: &mut [u8], out: &mut [u8], s: State) -> Turn
     requires { Idle line.old out.old s }
     ensures { Idle line.new out.new result.state }
 {
     let mut block = io::large_buffer();
-    let got = libc::read(STDIN_FILENO, &mut block);
-    if got <= 0 {
-        return closed(line, out, s);
+    let n = input.read(&mut block).unwrap_or(0);
+    if n == 0 {
+        return closed(output, line, out, s);
     }
-    let n = io::count(got, &block);
-    answered(&block[..n], line, out, s)
+    answered(output, &block[..n], line, out, s)
 }
 
 // A proved loop has to end, and nothing says that the input does: so the turns are counted down, from a number that no
 // run uses up.
-fn main() {
+fn main(rt: HostRuntime) {
+    let input = rt.stdin();
+    let output = rt.stdout();
     let mut line = [0u8; 1024];
     let mut out = io::large_buffer();
     let mut s = State {
@@ -88,7 +94,7 @@ fn main() {
     let mut is_open = true;
     let mut turns = u64::MAX;
     while turns > 0 && is_open {
-        let t = read_block(&mut line, &mut out, s);
+        let t = read_block(input, output, &mut line, &mut out, s);
         s = t.state;
         is_open = t.is_open;
         turns -= 1;

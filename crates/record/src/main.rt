@@ -8,8 +8,8 @@ ghost use Rattle.std.specs.Prelude.{◌≡◌, ◌≤◌, length};
 ghost use Rattle.record_text.specs.RecordTexts.{longest_reply};
 ghost use Rattle.line_text.specs.Inputs.{Begun, line_of, next_line};
 
-use libc::{STDIN_FILENO, STDOUT_FILENO};
 use line_text::input::State;
+use std::io::{Read, Stdin, Stdout, Write};
 
 // Where things stand, and whether to go on. No reply ever waits: each is written at once.
 #[derive(Clone, Copy)]
@@ -18,16 +18,16 @@ struct Turn {
     is_open: bool,
 }
 
-// Writes the reply to a line.
-fn reply(line: &[u8], is_long: bool, out: &mut [u8]) -> bool
+// Writes the reply to a line, and tells whether all of it could be written.
+fn reply(mut output: Stdout, line: &[u8], is_long: bool, out: &mut [u8]) -> bool
     requires { longest_reply ≤ length out.old }
 {
     let end = record_text::reply::put_line(line, is_long, out, 0);
-    io::write_all(STDOUT_FILENO, &out[..end])
+    output.write_all(&out[..end]).is_ok()
 }
 
 // One more byte: a line's end has its reply written, any other byte is kept if there is room.
-fn taken(line: &mut [u8], out: &mut [u8], s: State, b: u8) -> Turn
+fn taken(output: Stdout, line: &mut [u8], out: &mut [u8], s: State, b: u8) -> Turn
     requires { (s.kept ≤ length line.old) × (longest_reply ≤ length out.old) }
     ensures kept_in_bounds { result.state.kept ≤ length line.new }
     ensures state_after { line_of line.new result.state ≡ next_line (length line.old) (line_of line.old s) b }
@@ -35,7 +35,7 @@ fn taken(line: &mut [u8], out: &mut [u8], s: State, b: u8) -> Turn
     let kept = s.kept;
     let is_long = s.is_long;
     if b == b'\n' {
-        let is_open = reply(&line[..kept], is_long, out);
+        let is_open = reply(output, &line[..kept], is_long, out);
         return Turn {
             state: State {
                 kept: 0,
@@ -67,7 +67,7 @@ fn taken(line: &mut [u8], out: &mut [u8], s: State, b: u8) -> Turn
 }
 
 // Answers the lines of a block.
-fn answered(block: &[u8], line: &mut [u8], out: &mut [u8], start: State) -> Turn
+fn answered(output: Stdout, block: &[u8], line: &mut [u8], out: &mut [u8], start: State) -> Turn
     requires { (start.kept ≤ length line.old) × (longest_reply ≤ length out.old) }
     ensures kept_in_bounds { result.state.kept ≤ length line.new }
     ensures begun { Begun block.now line.old start line.new result.is_open result.state }
@@ -75,7 +75,7 @@ fn answered(block: &[u8], line: &mut [u8], out: &mut [u8], start: State) -> Turn
     let mut s = start;
     let mut i = 0;
     while i < block.len() {
-        let t = taken(line, out, s, block[i]);
+        let t = taken(output, line, out, s, block[i]);
         s = t.state;
         if !t.is_open {
             return Turn {
@@ -92,13 +92,13 @@ fn answered(block: &[u8], line: &mut [u8], out: &mut [u8], start: State) -> Turn
 }
 
 // At the input's end: the last line may lack its line feed.
-fn closed(line: &[u8], out: &mut [u8], s: State) -> Turn
+fn closed(output: Stdout, line: &[u8], out: &mut [u8], s: State) -> Turn
     requires { (s.kept ≤ length line.now) × (longest_reply ≤ length out.old) }
     ensures { result.state.kept ≤ length line.now }
 {
     let kept = s.kept;
     if 0 < kept {
-        reply(&line[..kept], s.is_long, out);
+        reply(output, &line[..kept], s.is_long, out);
     }
     Turn {
         state: s,
@@ -106,23 +106,24 @@ fn closed(line: &[u8], out: &mut [u8], s: State) -> Turn
     }
 }
 
-// Reads a block and answers its lines.
-fn read_block(line: &mut [u8], out: &mut [u8], s: State) -> Turn
+// Reads a block, of as many bytes as have come, and answers its lines. A read that fails counts as the input's end.
+fn read_block(mut input: Stdin, output: Stdout, line: &mut [u8], out: &mut [u8], s: State) -> Turn
     requires { (s.kept ≤ length line.old) × (longest_reply ≤ length out.old) }
     ensures { result.state.kept ≤ length line.new }
 {
     let mut block = io::large_buffer();
-    let got = libc::read(STDIN_FILENO, &mut block);
-    if got <= 0 {
-        return closed(line, out, s);
+    let n = input.read(&mut block).unwrap_or(0);
+    if n == 0 {
+        return closed(output, line, out, s);
     }
-    let n = io::count(got, &block);
-    answered(&block[..n], line, out, s)
+    answered(output, &block[..n], line, out, s)
 }
 
 // A proved loop has to end, and nothing says that the input does: so the turns are counted down, from a number that no
 // run uses up.
-fn main() {
+fn main(rt: HostRuntime) {
+    let input = rt.stdin();
+    let output = rt.stdout();
     let mut line = [0u8; 1024];
     let mut out = io::buffer();
     let mut s = State {
@@ -133,7 +134,7 @@ fn main() {
     let mut is_open = true;
     let mut turns = u64::MAX;
     while turns > 0 && is_open {
-        let t = read_block(&mut line, &mut out, s);
+        let t = read_block(input, output, &mut line, &mut out, s);
         s = t.state;
         is_open = t.is_open;
         turns -= 1;

@@ -1,0 +1,15 @@
+use Rattle.line_text.specs.InputLaws.{taken_end, taken_kept, taken_lost}
+use Rattle.line_text.specs.ReplyLaws.{count_of_part}
+use Rattle.line_text.proofs.input.taken.Goals as goal
+
+pub slice_bounds-put_line-end-then-b-eq10 : goal.slice_bounds-put_line-end-then-b-eq10
+slice_bounds-put_line-end-then-b-eq10 c = search count_of_part
+
+pub returns-then-b-eq10 : goal.returns-then-b-eq10
+returns-then-b-eq10 c = search taken_end
+
+pub returns-then-kept-line : goal.returns-then-kept-line
+returns-then-kept-line c = search taken_kept
+
+pub returns-else-kept-line : goal.returns-else-kept-line
+returns-else-kept-line c = search taken_lost
