@@ -18,7 +18,7 @@ use Rattle.polynom.specs.declared.Evaluated.TheVariants.{At, NotFinite}
 use Rattle.simple_convergency.specs.Stop.{turns_of}
 use Rattle.simple_convergency.specs.declared.StopRule.{StopRule}
 use Rattle.searching.proofs.Keeps.{ends_tallied}
-use Rattle.searching.specs.ProgramLaws.{play_bind}
+use Rattle.searching.proofs.ProgramLaws.{play_bind}
 use Rattle.searching.specs.Programs.{Test, holds, ruled, Prog, done, log, Turned, ended, next, bind, test, stops, sampled, value_at, offered, pulled_into, product_departs, bracketed, narrows_to, run, searches, oracle, Event, play, tallied, answer_of}
 use Rattle.brent.specs.Brent.{arrange, opened, second_at, first_at, opening, next_of, completes, pair_after, step_departs, arrived, landed, pulled_in, step_with, step_from, turn_from, brent_program, brent}
 use Rattle.brent.proofs.BrentRust.{rust_arrived, rust_step, rust_turn, rust_program, rust_brent, repeated}

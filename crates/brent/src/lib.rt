@@ -7,7 +7,7 @@ ghost use Rattle.numerical.specs.Tallies.{Room};
 ghost use Rattle.simple_convergency.specs.Stop.{greatest_limit};
 ghost use Rattle.simple_convergency.specs.declared.StopRule.{StopRule};
 ghost use Rattle.searching.specs.Programs.{ended, next, oracle, play, tallied};
-ghost use Rattle.searching.specs.LoopLaws.{Ample, run_of};
+ghost use Rattle.searching.specs.Loops.{Ample, run_of};
 ghost use Rattle.brent.specs.Brent.{arrange, opened, second_at, first_at, opening, inverse_quadratic, chord, three_values, guess_of, beyond_quarter, too_slow, stalls, bisects, used_of, next_of, completes, opposite_by, arrived, landed, pulled_in, step_with, step_from, turn_from, brent, viewed};
 
 use numerical::{Answer, Outcome, Progress, Sample};

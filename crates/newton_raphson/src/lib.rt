@@ -7,7 +7,7 @@ ghost use Rattle.numerical.specs.Tallies.{Room};
 ghost use Rattle.numerical.specs.declared.Answer.TheVariants.{ByValue};
 ghost use Rattle.simple_convergency.specs.Stop.{greatest_limit};
 ghost use Rattle.searching.specs.Programs.{ended, next, oracle, play, tallied};
-ghost use Rattle.searching.specs.LoopLaws.{Ample, run_of};
+ghost use Rattle.searching.specs.Loops.{Ample, run_of};
 ghost use Rattle.newton_raphson.specs.NewtonRaphson.{newton_point, landed, onward, later_at, turn_from, nudge, first_at, opening, turns_left, newton_raphson, viewed};
 
 use numerical::{Answer, Outcome, Progress, Sample};

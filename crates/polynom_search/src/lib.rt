@@ -8,7 +8,7 @@ ghost use Rattle.numerical.specs.declared.Answer.TheVariants.{ByValue};
 ghost use Rattle.simple_convergency.specs.Stop.{greatest_limit};
 ghost use Rattle.simple_convergency.specs.declared.StopRule.{StopRule};
 ghost use Rattle.searching.specs.Programs.{ended, next, oracle, play, tallied};
-ghost use Rattle.searching.specs.LoopLaws.{Ample, run_of};
+ghost use Rattle.searching.specs.Loops.{Ample, run_of};
 ghost use Rattle.polynom_search.specs.PolynomSearch.{second_at, first_at, ordered, opening, chosen, closer, newton_point, in_pair, at_middle, step_at, width_at, middle_in, at_middle_of, turn_from, polynom_search, viewed};
 
 use numerical::{Answer, Interval, Outcome, Progress, Sample};

@@ -15,7 +15,8 @@ use Rattle.simple_convergency.specs.declared.StopRule.{StopRule}
 use Rattle.simple_convergency.specs.declared.Checked.TheVariants.{Rule, Refused as RuleRefused}
 use Rattle.searching.specs.Programs.{Prog, done, ask, ask_both, log, Event, asked, asked_both, noted, oracle, play, answer_of}
 use Rattle.searching.specs.Histories.{listed, history, values_in, derivatives_in, steps_in, mark_in}
-use Rattle.searching.specs.ProgramLaws.{play_counted, counted, tallies_are_counts}
+use Rattle.searching.proofs.ProgramLaws.{play_counted, tallies_are_counts}
+use Rattle.searching.specs.Histories.{counted}
 use Rattle.polynom.specs.Polynom.{evaluated, evaluated_both}
 use Rattle.searching.proofs.Keeps.{Ends}
 use Rattle.brent.specs.Brent.{brent}

@@ -15,7 +15,7 @@ use Rattle.polynom.proofs.TermLaws.{value_not_minus}
 use Rattle.searching.specs.Brackets.{pairs_in, Narrows}
 use Rattle.searching.specs.Events.{evaluations_in, signs_missed, Each, BeforePairs}
 use Rattle.searching.specs.Histories.{steps_in}
-use Rattle.searching.specs.ProgramLaws.{counted}
+use Rattle.searching.specs.Histories.{counted}
 use Rattle.searching.specs.Programs.{Test, found, converged, holds, tested, Event, noted}
 use Rattle.searching.specs.Reasons.{Occurs, ends_run, CalledFor, SignsHeld, FlatHeld, NoneHeld, NotFiniteIn, EvaluatedAt, Reason}
 use Rattle.searching.proofs.ExactLaws.{decided, tests_honest, points_finite, exactly_by_value, exactly_by_width, exactly_six, exactly_seven, exactly_eight, exactly_nine}

@@ -13,7 +13,7 @@ use Rattle.searching.specs.Events.{evaluations_in, signs_missed, Rules, Each, Wi
 use Rattle.searching.proofs.EventLaws.{mark_known, values_are}
 use Rattle.searching.specs.Histories.{history, steps_in, mark_in}
 use Rattle.searching.proofs.Keeps.{Ends}
-use Rattle.searching.specs.ProgramLaws.{counted}
+use Rattle.searching.specs.Histories.{counted}
 use Rattle.searching.specs.Programs.{flat, tested, noted, Event, oracle, answer_of}
 use Rattle.searching.specs.Reasons.{Reason, of_signs, of_flatness, of_limit, of_value, of_derivative, of_candidate, of_middle}
 use Rattle.brent.proofs.BrentTraces.{brent_traced}

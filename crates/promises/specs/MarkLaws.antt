@@ -8,7 +8,8 @@ use Rattle.numerical.specs.declared.Outcome.{Outcome}
 use Rattle.numerical.specs.declared.Progress.{Progress}
 use Rattle.searching.specs.Programs.{Prog, oracle, answer_of}
 use Rattle.searching.specs.Histories.{history, mark_in}
-use Rattle.searching.specs.ProgramLaws.{counted, tallies_are_counts}
+use Rattle.searching.specs.Histories.{counted}
+use Rattle.searching.proofs.ProgramLaws.{tallies_are_counts}
 use Rattle.searching.specs.Reasons.{Unmarked}
 use Rattle.regula_falsi.proofs.RegulaFalsiMarks.{ZeroOrTwo, regula_falsi_marks}
 use Rattle.secant.proofs.SecantKeeps.{secant_ends}

@@ -7,7 +7,7 @@ ghost use Rattle.numerical.specs.Tallies.{Room};
 ghost use Rattle.numerical.specs.declared.Answer.TheVariants.{ByValue};
 ghost use Rattle.simple_convergency.specs.Stop.{greatest_limit};
 ghost use Rattle.searching.specs.Programs.{ended, next, oracle, play, tallied};
-ghost use Rattle.searching.specs.LoopLaws.{Ample, run_of};
+ghost use Rattle.searching.specs.Loops.{Ample, run_of};
 ghost use Rattle.regula_falsi.specs.RegulaFalsi.{halved, second_at, first_at, ordered, opening, candidate_of, right_after, left_after, left_replaced, right_replaced, replaced_of, departs, arrived, landed, pulled_in, turn_from, regula_falsi, viewed};
 
 use numerical::{Answer, Outcome, Progress, Sample};

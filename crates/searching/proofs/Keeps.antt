@@ -19,7 +19,7 @@ use Rattle.polynom.specs.declared.EvaluatedBoth.{EvaluatedBoth}
 use Rattle.polynom.specs.declared.EvaluatedBoth.TheVariants.{Both, NotBothFinite}
 use Rattle.searching.specs.Programs.{Test, holds, alike, Note, tested, candidate, ruled, paired, stepped, Prog, done, log, Turned, ended, next, bind, test, stops, sampled, sampled_both, value_at, both_at, offered, pulled_into, product_departs, bracketed, steps_to, narrows_to, run, searches, Oracle, Event, asked, asked_both, noted, play, tallied}
 use Rattle.searching.specs.Histories.{listed}
-use Rattle.searching.specs.ProgramLaws.{play_bind, play_end}
+use Rattle.searching.proofs.ProgramLaws.{play_bind, play_end}
 
 -- played from the history h on, the program g ends where Q holds
 pub record Ends {A : Type 0} (o : Oracle) (Q : A → List Event → Type 0) (g : Prog A) (h : List Event) : Type 0 where

@@ -6,3 +6,6 @@ pub mod Keeps
 pub mod ReasonLaws
 pub mod RuleLaws
 pub mod StepLaws
+pub mod ProgramLaws
+pub mod BoundLaws
+pub mod LoopLaws

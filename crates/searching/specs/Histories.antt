@@ -1,6 +1,7 @@
 -- The history of a play, newest first, and what is counted in it. Definitions only.
 use Rattle.std.specs.Prelude.{ℕ, ◌+◌, List, [], ◌∷◌}
 use Rattle.numerical.specs.Tallies.{mark_after}
+use Rattle.numerical.specs.declared.Progress.{Progress}
 use Rattle.searching.specs.Programs.{tested, candidate, ruled, paired, stepped, Prog, Oracle, Event, asked, asked_both, noted, play}
 
 abbrev pub listed : Event → List Event → List Event
@@ -42,3 +43,11 @@ mark_in (noted (candidate x) ∷ h) = mark_in h
 mark_in (noted (ruled rule departed) ∷ h) = mark_after rule departed (mark_in h)
 mark_in (noted (paired i) ∷ h) = mark_in h
 mark_in (noted stepped ∷ h) = mark_in h
+
+-- what a history says of the tallies and the mark
+unfoldable pub counted : List Event → Progress
+counted h =
+    record {
+      tally = record { steps = record { 0 = steps_in h }; values = record { 0 = values_in h }; derivatives = record { 0 = derivatives_in h } };
+      mark = mark_in h;
+    }

@@ -2,9 +2,8 @@
 pub mod Programs
 pub mod Rules
 pub mod Histories
-pub mod ProgramLaws
 pub mod Bounds
-pub mod LoopLaws
+pub mod Loops
 -- what is promised of every history, and the rules by which a method keeps it
 pub mod Reasons
 pub mod Brackets

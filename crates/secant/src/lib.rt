@@ -7,7 +7,7 @@ ghost use Rattle.numerical.specs.Tallies.{Room};
 ghost use Rattle.numerical.specs.declared.Answer.TheVariants.{ByValue};
 ghost use Rattle.simple_convergency.specs.Stop.{greatest_limit};
 ghost use Rattle.searching.specs.Programs.{ended, next, oracle, play, tallied};
-ghost use Rattle.searching.specs.LoopLaws.{Ample, run_of};
+ghost use Rattle.searching.specs.Loops.{Ample, run_of};
 ghost use Rattle.secant.specs.Secant.{second_at, first_at, opening, candidate_of, arrived, landed, turn_from, secant, viewed};
 
 use numerical::{Answer, Outcome, Progress, Sample};

@@ -14,9 +14,12 @@ use Rattle.simple_convergency.specs.declared.StopRule.{StopRule}
 use Rattle.polynom.specs.Polynom.{value, sums, evaluated}
 use Rattle.searching.specs.Programs.{next, searches, oracle, answer_of, stops, test, value_at, sampled, offered, steps_to, bind, run, play}
 use Rattle.searching.specs.Histories.{history}
-use Rattle.searching.specs.ProgramLaws.{tallies_are_counts, counted}
-use Rattle.searching.specs.Bounds.{Within, within_done, within_stops, within_value, within_offered, within_steps, within_less, within_searches, answer_within}
-use Rattle.searching.specs.LoopLaws.{Turns, run_of, opened_next}
+use Rattle.searching.proofs.ProgramLaws.{tallies_are_counts}
+use Rattle.searching.specs.Histories.{counted}
+use Rattle.searching.specs.Bounds.{Within}
+use Rattle.searching.proofs.BoundLaws.{within_done, within_stops, within_value, within_offered, within_steps, within_less, within_searches, answer_within}
+use Rattle.searching.specs.Loops.{Turns, run_of}
+use Rattle.searching.proofs.LoopLaws.{opened_next}
 use Rattle.walking.specs.Walking.{seen_at, turn_from, opening, walking, seen}
 use Rattle.walking.specs.declared.To.{To}
 use Rattle.walking.specs.declared.To.TheVariants.{Ended, Next}

@@ -6,7 +6,7 @@ ghost use Rattle.std.specs.Prelude.{◌≡◌, List, ◌≤◌, Float};
 ghost use Rattle.numerical.specs.Tallies.{Room};
 ghost use Rattle.simple_convergency.specs.Stop.{greatest_limit};
 ghost use Rattle.searching.specs.Programs.{ended, next, oracle, play, tallied};
-ghost use Rattle.searching.specs.LoopLaws.{Ample, run_of};
+ghost use Rattle.searching.specs.Loops.{Ample, run_of};
 ghost use Rattle.walking.specs.Walking.{seen_at, turn_from, walking, viewed};
 
 use numerical::{Answer, Outcome, Progress, Sample};

@@ -1,5 +1,5 @@
 use Rattle.numerical.proofs.TallyLaws.{room}
-use Rattle.searching.specs.LoopLaws.{opened_room}
+use Rattle.searching.proofs.LoopLaws.{opened_room}
 use Rattle.newton_raphson.proofs.NewtonRaphsonLaws.{from_end, from_state, left_few, small_opening}
 use borrow.Author.Rules.{rules}
 use Rattle.newton_raphson.proofs.find_root.Goals as goal

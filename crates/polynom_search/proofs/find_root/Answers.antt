@@ -1,5 +1,5 @@
 use Rattle.numerical.proofs.TallyLaws.{room}
-use Rattle.searching.specs.LoopLaws.{opened_room}
+use Rattle.searching.proofs.LoopLaws.{opened_room}
 use Rattle.polynom_search.proofs.PolynomSearchLaws.{from_end, from_state, small_opening}
 use native.Mathlib.Omega.{arith}
 use borrow.Author.Rules.{rules}

@@ -5,7 +5,7 @@ use Rattle.numerical.specs.Tallies.{fresh}
 use Rattle.numerical.specs.declared.Answer.{Answer}
 use Rattle.numerical.specs.declared.Progress.{Progress}
 use Rattle.searching.specs.Programs.{tested, candidate, ruled, paired, stepped, Prog, done, ask, ask_both, log, Turned, ended, bind, run, Oracle, oracle, Event, asked, asked_both, noted, play, tallied, answer_of}
-use Rattle.searching.specs.Histories.{listed, history, values_in, derivatives_in, steps_in, mark_in}
+use Rattle.searching.specs.Histories.{counted, listed, history, values_in, derivatives_in, steps_in, mark_in}
 
 -- to play one program after another is to play the second where the first ended
 pub play_bind :
@@ -30,14 +30,6 @@ play_end one other o (done a) k l = refl
 play_end one other o (ask x f) k l = play_end one other o (f (o.value x)) _ _
 play_end one other o (ask_both x f) k l = play_end one other o (f (o.both x)) _ _
 play_end one other o (log n g) k l = play_end one other o g _ _
-
--- what a history says of the tallies and the mark
-unfoldable pub counted : List Event → Progress
-counted h =
-    record {
-      tally = record { steps = record { 0 = steps_in h }; values = record { 0 = values_in h }; derivatives = record { 0 = derivatives_in h } };
-      mark = mark_in h;
-    }
 
 -- an event counts the same in the book and in the history
 counted_more : (e : Event) (h : List Event) → tallied e (counted h) ≡ counted (e ∷ h)
