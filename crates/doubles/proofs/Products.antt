@@ -1,5 +1,5 @@
 -- A rounded product that is not zero tells whether its factors have the same sign. Assumes nothing.
-use Rattle.std.specs.Prelude.{◌≡◌, refl, Bool, true, false, not, ◌&&◌, cond, ℕ, zero, suc, ◌+◌, ◌*◌, ◌^◌, ◌<◌, T, ltb, eqb, ℤ, pos, Float}
+use Rattle.std.specs.Prelude.{◌≡◌, refl, Bool, true, false, ◌&&◌, cond, ℕ, zero, suc, ◌+◌, ◌*◌, ◌^◌, ◌<◌, T, ltb, eqb, ℤ, pos, Float}
 use Rattle.std.proofs.Common.{sym, ◌∙◌, subst, inl, inr, true≢false, lt_irrefl, mul-pos, mul_comm, zero-mul, add-zero, mul-one, eq-zero-or-pos, arith, ltb→lt, lt→ltb, le-ltb, ne_eqb, pow_pos}
 use Rattle.std.specs.Bool.{beq}
 use Rattle.std.proofs.lemmas.Bool.{false≢true}

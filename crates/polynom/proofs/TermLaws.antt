@@ -1,5 +1,5 @@
 -- Laws of the sums: a coefficient more at a time, and that the value's bits are the same beside the derivative.
-use Rattle.std.specs.Prelude.{false, ◌≡◌, refl, List, [], ◌∷◌, ℕ, suc, ◌+◌, ◌-◌, ◌%◌, ◌≤◌, ◌<◌, length, drop, get_or, T, Float}
+use Rattle.std.specs.Prelude.{false, ◌≡◌, refl, List, [], ◌∷◌, ℕ, suc, ◌+◌, ◌-◌, ◌≤◌, ◌<◌, length, drop, get_or, T, Float}
 use Rattle.std.proofs.Common.{ap, ◌∙◌, arith, drop-cons}
 use Rattle.std.proofs.Math.Seq.{drop-length}
 use Rattle.std.specs.Float.{nan, binary64}
@@ -7,9 +7,7 @@ use Rattle.std.specs.Float.Ieee.{fits, of_bits}
 use Rattle.std.specs.Float.Ieee.Fits.{add-fits, mul-fits}
 use Rattle.doubles.proofs.Sums.{minus_zero, sum_not_minus}
 use Rattle.polynom.specs.declared.Sum.{Sum}
-use Rattle.polynom.specs.declared.Summed.{Summed}
 use Rattle.polynom.specs.Polynom.{nothing_summed, summed, sums, whole, value, Sums, nothing_summed_both, summed_both, sums_both, value_and_derivative}
-use Rattle.polynom.specs.Terms.{Passed}
 
 -- what is left from i - 1 on is the coefficient there and what is left from i on
 drop_one : (a : List Float) (i : ℕ) → 0 < i → i ≤ length a → drop (i - 1) a ≡ get_or a (i - 1) nan ∷ drop i a

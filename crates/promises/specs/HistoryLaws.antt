@@ -18,7 +18,7 @@ use Rattle.searching.specs.Programs.{flat, tested, noted, Event, oracle, answer_
 use Rattle.searching.specs.Reasons.{Reason, of_signs, of_flatness, of_limit, of_value, of_derivative, of_candidate, of_middle}
 use Rattle.brent.proofs.BrentTraces.{brent_traced}
 use Rattle.regula_falsi.proofs.RegulaFalsiTraces.{regula_falsi_traced}
-use Rattle.secant.proofs.SecantTraces.{secant_ordered}
+use Rattle.secant.proofs.SecantOrdered.{secant_ordered}
 use Rattle.newton_raphson.proofs.NewtonRaphsonTraces.{newton_raphson_ordered}
 use Rattle.polynom_search.proofs.PolynomSearchTraces.{polynom_search_traced}
 use Rattle.simple_convergency.specs.declared.Tolerances.{Tolerances}

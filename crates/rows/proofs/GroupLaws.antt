@@ -1,6 +1,6 @@
 -- A number has one spelling, and it reads back.
 use Rattle.std.specs.Prelude.{ℕ, zero, suc, ◌+◌, ◌-◌, ◌*◌, ◌/◌, ◌%◌, ◌^◌, ◌≤◌, ◌<◌, Bool, true, false, cond, List, [], ◌∷◌, ◌++◌, ◌≡◌, refl, ltb, eqb, length}
-use Rattle.std.proofs.Common.{pow-suc, arith, sym, ap, ◌∙◌, lt-ltb, le-ltb, eq-eqb, ne_eqb, ltb-true, ltb-false, eqb-true}
+use Rattle.std.proofs.Common.{pow-suc, arith, sym, ap, ◌∙◌, lt-ltb, le-ltb, ne_eqb, ltb-true, ltb-false}
 use Rattle.std.proofs.lemmas.Bool.{eqb-false}
 use Rattle.rows.specs.Groups.{groups_in, groups, Found, found, none, above, number_in, number_of}
 

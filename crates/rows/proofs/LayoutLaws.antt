@@ -1,5 +1,5 @@
 -- Both round trips, over every layout; a row is right exactly if it reads back whole; and a row read part by part.
-use Rattle.std.specs.Prelude.{ℕ, zero, suc, ◌+◌, ◌^◌, ◌≤◌, ◌<◌, Bool, cond, ◌&&◌, ◌≡◌, ltb, length, drop}
+use Rattle.std.specs.Prelude.{ℕ, ◌^◌, ◌≤◌, Bool, cond, ◌&&◌, ◌≡◌, ltb, length}
 use Rattle.std.proofs.Common.{arith, true≢false, sym, ap, ◌∙◌, lt-ltb, ltb-true}
 use Rattle.std.proofs.Math.Bool.{true, false}
 use mathlib.Core.List.{List, [], ◌∷◌, ◌++◌, append_assoc, append-nil}

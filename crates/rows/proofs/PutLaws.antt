@@ -1,14 +1,12 @@
 -- Bytes put one after the other, and a number group by group.
-use Rattle.std.specs.Prelude.{ℕ, zero, suc, ◌+◌, ◌-◌, ◌*◌, ◌/◌, ◌%◌, ◌^◌, ◌≤◌, ◌<◌, List, [], ◌∷◌, ◌++◌, ◌≡◌, refl, length, take, drop, set}
-use Rattle.std.proofs.Common.{add-one, arith, append_assoc, append-nil, sym, ap, ◌∙◌, length-set, length-append, length-take, length-drop, take-append-drop, length-take-le, take_at, drop_at, drop-drop, Fits}
+use Rattle.std.specs.Prelude.{ℕ, zero, suc, ◌+◌, ◌/◌, ◌%◌, ◌^◌, ◌≤◌, ◌<◌, List, [], ◌∷◌, ◌++◌, ◌≡◌, refl, length, take, drop, set}
+use Rattle.std.proofs.Common.{add-one, arith, append_assoc, append-nil, sym, ap, ◌∙◌, length-set, length-append, length-drop, take-append-drop, length-take-le, take_at, drop_at, drop-drop}
 use Rattle.std.proofs.lemmas.List.{set_split}
-use Rattle.std.proofs.Math.Seq.{drop-append-add}
-use Rattle.std.specs.Int.{w8, w64}
 use Rattle.rows.specs.Groups.{groups_in, groups}
 use Rattle.rows.proofs.GroupLaws.{limit_in, groups_last, groups_on, shorter, ten_at_most}
 use Rattle.rows.specs.Layouts.{spell}
 use Rattle.rows.proofs.LayoutLaws.{spell_append, small_append}
-use Rattle.rows.specs.Puts.{Put, Small, PutRow}
+use Rattle.rows.specs.Puts.{Put, PutRow}
 
 -- ---- bytes
 

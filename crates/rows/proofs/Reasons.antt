@@ -1,6 +1,6 @@
 -- Why bytes are no number: they end early, have an eleventh group, pass 64 bits, or have a needless last group.
 use Rattle.std.specs.Prelude.{ℕ, zero, suc, ◌-◌, ◌+◌, ◌*◌, ◌≤◌, ◌<◌, Bool, true, false, cond, List, [], ◌∷◌, ◌++◌, ◌≡◌, refl, ltb, eqb}
-use Rattle.std.proofs.Common.{arith, sym, ap, ◌∙◌, lt-ltb, le-ltb, ltb-true, ltb-false, eqb-true}
+use Rattle.std.proofs.Common.{arith, ap, ◌∙◌, le-ltb, ltb-true, ltb-false, eqb-true}
 use Rattle.rows.specs.Groups.{groups_in, Found, found, none, above, number_in, number_of}
 use Rattle.rows.proofs.GroupLaws.{one_spelling}
 

@@ -1,10 +1,10 @@
 -- A number read group by group.
-use Rattle.std.specs.Prelude.{ℕ, zero, suc, ◌+◌, ◌-◌, ◌*◌, ◌^◌, ◌≤◌, ◌<◌, Bool, true, false, cond, List, [], ◌∷◌, ◌≡◌, refl, ltb, eqb, length, drop, get_or}
-use Rattle.std.proofs.Common.{pow-suc, mul-le-mul_left, mul-add, mul_assoc, mul_comm, add-one, arith, sym, ap, ◌∙◌, subst, length-drop, drop_of_length-le, drop-cons, Fits}
+use Rattle.std.specs.Prelude.{ℕ, zero, suc, ◌+◌, ◌-◌, ◌*◌, ◌^◌, ◌≤◌, ◌<◌, Bool, true, false, cond, List, ◌∷◌, ◌≡◌, refl, ltb, eqb, length, drop, get_or}
+use Rattle.std.proofs.Common.{pow-suc, mul-le-mul_left, mul-add, mul_assoc, add-one, arith, sym, ap, ◌∙◌, subst, length-drop, drop_of_length-le, drop-cons, Fits}
 use Rattle.std.proofs.Math.Nat.{pow-le-pow_right}
 use borrow.Author.Tests.{lt-ltb, le-ltb, eq-eqb, ne_eqb, eqb-true, eqb-false, ltb-true, ltb-false}
 use Rattle.std.specs.Int.{w64}
-use Rattle.rows.specs.Groups.{Found, found, none, above, number_in, number_of, TookOne, Took, tenth_at}
+use Rattle.rows.specs.Groups.{Found, found, none, above, number_in, number_of, Took, tenth_at}
 use Rattle.rows.proofs.GroupLaws.{number_last, number_on}
 use Rattle.rows.specs.declared.Taken.{Taken}
 use Rattle.rows.specs.declared.Taken.TheVariants.{Is, Wrong}

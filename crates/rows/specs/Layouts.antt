@@ -1,5 +1,5 @@
 -- A layout tells which rows of numbers are right and what they hold: a number with a test, and what follows it, which may go by that number. Definitions only.
-use Rattle.std.specs.Prelude.{ℕ, zero, suc, ◌^◌, ◌≤◌, Bool, true, false, cond, ◌&&◌, List, [], ◌∷◌, ◌++◌, ◌≡◌, ltb, length, drop}
+use Rattle.std.specs.Prelude.{ℕ, ◌^◌, ◌≤◌, Bool, true, false, cond, ◌&&◌, List, [], ◌∷◌, ◌++◌, ◌≡◌, ltb, length, drop}
 use Rattle.rows.specs.Groups.{groups, Found, found, none, number_of}
 
 -- at the end stands what the row holds

@@ -1,19 +1,13 @@
 -- The search of every method: what its opening came to, and its loop. After n turns the code stands at a state s, and what is left of the run gives the whole answer.
-use Prim.Native.Nat.{ℕ, suc, ◌+◌, ◌*◌, ◌-◌, ◌≤◌, ◌<◌}
-use native.Mathlib.Omega.{arith}
-use Rattle.std.proofs.Math.Nat.{sub-zero}
+use Prim.Native.Nat.{ℕ, ◌*◌}
 use Rattle.std.specs.Prelude.{List, ◌≡◌, Float}
-use Rattle.std.proofs.Math.Path.{refl}
-use Rattle.std.proofs.Common.{ap, sym, ◌∙◌}
 use Rattle.numerical.specs.Answers.{outcome}
-use Rattle.numerical.specs.Tallies.{fresh, Room}
-use Rattle.numerical.proofs.TallyLaws.{room_fresh}
+use Rattle.numerical.specs.Tallies.{Room}
 use Rattle.numerical.specs.declared.Answer.{Answer}
-use Rattle.numerical.specs.declared.Answer.TheVariants.{Refused}
 use Rattle.numerical.specs.declared.Outcome.{Outcome}
 use Rattle.numerical.specs.declared.Progress.{Progress}
 use Rattle.simple_convergency.specs.Stop.{greatest_limit}
-use Rattle.searching.specs.Programs.{Prog, Turned, ended, next, run, searches, oracle, play, tallied, answer_of}
+use Rattle.searching.specs.Programs.{Prog, Turned, ended, next, run, oracle, play, tallied}
 use Rattle.searching.specs.Bounds.{Within}
 
 -- the turns of a method, and of its code: S is its state, and T the enum that says where a turn leads

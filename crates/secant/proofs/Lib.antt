@@ -3,3 +3,4 @@ pub mod SecantEvents
 pub mod SecantKeeps
 pub mod SecantLaws
 pub mod SecantTraces
+pub mod SecantOrdered

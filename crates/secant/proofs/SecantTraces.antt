@@ -1,4 +1,4 @@
--- Every secant history has its events in order.
+-- The steps of a secant search, each with its events in order.
 use Rattle.std.specs.Prelude.{List, [], ◌∷◌, ◌≡◌, Float}
 use Rattle.std.proofs.Common.{inl, inr}
 use Rattle.std.proofs.Math.Path.{refl}
@@ -14,14 +14,14 @@ use Rattle.secant.proofs.SecantEvents.{Follows, Gives}
 use Rattle.secant.specs.declared.Secant.{Secant}
 
 module _ (a : List Float) (stop : StopRule) (first second : Float) where
-  abbrev Orders : List Event → Type 0
+  abbrev pub Orders : List Event → Type 0
   Orders h = Each (Follows first second) h
 
   -- the state holds the last two samples, and the candidate before was evaluated
-  abbrev Inv : Secant → List Event → Type 0
+  abbrev pub Inv : Secant → List Event → Type 0
   Inv s h = Orders h × SampledTwo s.first s.second h × Tried h
 
-  abbrev Reaches : Prog (Turned Secant) → List Event → Type 0
+  abbrev pub Reaches : Prog (Turned Secant) → List Event → Type 0
   Reaches g h = Ends (oracle a) (After Inv (Ordered (Follows first second) Gives)) g h
 
   -- ---- the opening
@@ -36,13 +36,13 @@ module _ (a : List Float) (stop : StopRule) (first second : Float) where
       (λ e. ends_value second (λ n. record { each = (inr (inl (At p, l, refl)), ((first, _, l), o)); width = tt })
       (λ q n. traces_second p q _ (rw l refl) (_, _, refl) (inr (inl (At p, l, refl)), ((first, _, l), o))))
 
-  traces_opening : Reaches (opening stop first second) []
+  pub traces_opening : Reaches (opening stop first second) []
   unfolding opening evaluations_in
   traces_opening = ends_value first (λ n. record { each = (inl (refl, refl), tt); width = tt }) (λ p n. traces_first p _ refl (inl (refl, refl), tt))
 
   -- ---- a step
   module _ (s : Secant) where
-    traces_landed : (x : Float) (h : List Event) → Untried x h → Orders h → SampledTwo s.first s.second h → Reaches (landed stop s x) h
+    pub traces_landed : (x : Float) (h : List Event) → Untried x h → Orders h → SampledTwo s.first s.second h → Reaches (landed stop s x) h
     unfolding landed arrived evaluations_in candidates_in evaluated_since
     traces_landed x h k o (u, v, older, l) =
         let last : LastPoint s.second.x h = (s.second, (v, _, l), refl) in
@@ -51,15 +51,3 @@ module _ (a : List Float) (stop : StopRule) (first second : Float) where
         (λ p n. ends_stops stop _
         (λ f. ends_done (record { each = ((x, _, refl), (inr (inr k), ((k.0, last), o))); width = tt }))
         (λ f. ends_steps _ (((p, (x, rw k.1 refl)), ((x, _, refl), (inr (inr k), ((k.0, last), o)))), (v, x, asked u (At s.first) ∷ older, rw l refl), (_, _, refl)))))
-
-    traces_turn : (h : List Event) → Inv s h → Reaches (turn_from stop s) h
-    unfolding turn_from evaluations_in candidates_in evaluated_since
-    traces_turn h (o, l, t) =
-        ends_stops stop _ (λ e. ends_done (record { each = ((s.first, s.second, l, refl), o); width = tt }))
-        (λ e. ends_offered _ _ (λ c. record { each = ((s.first, s.second, l, t, refl), ((s.first, s.second, l, refl), o)); width = tt })
-        (λ c. traces_landed _ _ ((_, refl), refl) ((s.first, s.second, l, t, refl), ((s.first, s.second, l, refl), o)) l))
-
-  -- every secant search
-  pub secant_ordered : Ends (oracle a) (Ordered (Follows first second) Gives) (secant_program stop first second) []
-  unfolding secant_program
-  secant_ordered = ends_searches (λ r. turns_of stop) (turn_from stop) (λ n. Inv) (Ordered (Follows first second) Gives) traces_opening (λ n s h t. traces_turn s h t) (λ s h t. record { each = t.0; width = tt })

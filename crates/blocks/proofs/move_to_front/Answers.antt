@@ -1,7 +1,4 @@
 use Rattle.blocks.proofs.BlockLaws.{part_counted, part_moved, part_none}
-use borrow.Author.Rules.{rules}
-use Rattle.blocks.proofs.moved.Reads as moved-reads
-use Rattle.blocks.proofs.part_length.Reads as part-length-reads
 use Rattle.blocks.proofs.move_to_front.Goals as goal
 
 pub returns-then-n-ne0 : goal.returns-then-n-ne0

@@ -1,6 +1,5 @@
 use borrow.Author.Rules.{rules}
-use Prim.Native.Nat.{◌-◌}
-use Rattle.blocks.proofs.BlockLaws.{Moving, move_starts, move_on, move_done}
+use Rattle.blocks.proofs.BlockLaws.{move_starts, move_on, move_done}
 use Rattle.blocks.proofs.moved.Goals as goal
 
 pub loop-i-init : goal.loop-i-init

@@ -1,6 +1,5 @@
-use borrow.Author.Rules.{rules}
 use Prim.Native.Nat.{◌-◌}
-use Rattle.blocks.proofs.BlockLaws.{Moving, move_starts, move_on, move_done}
+use Rattle.blocks.proofs.BlockLaws.{Moving}
 use Rattle.blocks.proofs.moved.Given as goal
 
 abbrev pub invariant-loop-i : goal.invariant-loop-i

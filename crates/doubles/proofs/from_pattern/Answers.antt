@@ -1,4 +1,3 @@
-use borrow.Author.Rules.{rules}
 use lib.Ieee.{div, of_bits}
 use Rattle.doubles.proofs.Patterns.{no_nan_pattern, nan_pattern}
 use Rattle.doubles.proofs.from_pattern.Goals as goal

@@ -1,5 +1,4 @@
 -- `doubles::is_outside` meets its contract. Assumes nothing.
-use borrow.Author.Rules.{rules}
 use Rattle.doubles.proofs.Pairs.{outside_beyond}
 use Rattle.doubles.proofs.is_outside.Goals as goal
 

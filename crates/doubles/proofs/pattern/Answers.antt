@@ -1,4 +1,3 @@
-use borrow.Author.Rules.{rules}
 use Rattle.doubles.proofs.Patterns.{not_nan, nan_written}
 use Rattle.doubles.proofs.pattern.Goals as goal
 

@@ -1,5 +1,4 @@
 -- `doubles::pulled` meets its contract. Assumes nothing.
-use borrow.Author.Rules.{rules}
 use Rattle.doubles.specs.Doubles.{pulled}
 use Rattle.doubles.proofs.pulled.Goals as goal
 

@@ -1,5 +1,4 @@
 use Rattle.numerical.proofs.Choices.{choices}
-use borrow.Author.Rules.{rules}
 use Rattle.polynom.proofs.both_if_finite.Goals as goal
 
 pub returns-then-is_finite-2 : goal.returns-then-is_finite-2

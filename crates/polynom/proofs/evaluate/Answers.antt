@@ -1,5 +1,4 @@
 use Rattle.polynom.specs.Polynom.{evaluated}
-use borrow.Author.Rules.{rules}
 use Rattle.polynom.proofs.evaluate.Goals as goal
 
 pub returns : goal.returns

@@ -1,5 +1,4 @@
 use Rattle.polynom.specs.Polynom.{evaluated_both}
-use borrow.Author.Rules.{rules}
 use Rattle.polynom.proofs.evaluate_both.Goals as goal
 
 pub returns : goal.returns

@@ -1,5 +1,4 @@
 -- `polynom::one_more` meets its contract. Assumes nothing.
-use borrow.Author.Rules.{rules}
 use Rattle.polynom.proofs.TermLaws.{sums_more}
 use Rattle.polynom.proofs.one_more.Goals as goal
 

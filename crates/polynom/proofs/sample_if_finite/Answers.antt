@@ -1,5 +1,4 @@
 use Rattle.numerical.proofs.Choices.{choices}
-use borrow.Author.Rules.{rules}
 use Rattle.polynom.proofs.sample_if_finite.Goals as goal
 
 pub returns-then-is_finite : goal.returns-then-is_finite

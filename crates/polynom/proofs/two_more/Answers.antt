@@ -1,5 +1,4 @@
 -- `polynom::two_more` meets its contract. Assumes nothing.
-use borrow.Author.Rules.{rules}
 use native.Mathlib.Omega.{arith}
 use Prim.Native.Nat.{◌+◌}
 use Rattle.polynom.proofs.TermLaws.{sums_at}

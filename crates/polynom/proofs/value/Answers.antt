@@ -3,7 +3,6 @@ use borrow.Author.Rules.{rules}
 use native.Mathlib.Omega.{arith}
 use Prim.Native.Nat.{◌+◌, ◌-◌}
 use Rattle.polynom.specs.Polynom.{value}
-use Rattle.polynom.specs.Terms.{Passed}
 use Rattle.polynom.proofs.TermLaws.{sums_at}
 use Rattle.polynom.proofs.value.Goals as goal
 

@@ -1,9 +1,4 @@
-use borrow.Author.Rules.{rules}
-use native.Mathlib.Omega.{arith}
-use Prim.Native.Nat.{◌+◌, ◌-◌}
-use Rattle.polynom.specs.Polynom.{value}
 use Rattle.polynom.specs.Terms.{Passed}
-use Rattle.polynom.proofs.TermLaws.{sums_at}
 use Rattle.polynom.proofs.value.Given as goal
 
 abbrev pub invariant-loop-left : goal.invariant-loop-left

@@ -1,10 +1,7 @@
 -- `polynom::value_and_derivative` meets its contract. The loop's invariant: the locals are the sums of the coefficients passed, from i on. Assumes nothing.
-use mathlib.Core.Logic.{⊎_elim}
 use mathlib.Core.Path.{◌≡◌}
-use Prim.Native.Nat.{◌≤◌}
 use native.Mathlib.Omega.{arith}
-use borrow.Author.Rules.{rules}
-use lib.ListN.{length, drop}
+use lib.ListN.{length}
 use Rattle.polynom.specs.Polynom.{sums_both, value_and_derivative}
 use Rattle.polynom.proofs.TermLaws.{sums_both_none, sums_both_more}
 use Rattle.polynom.proofs.value_and_derivative.Goals as goal

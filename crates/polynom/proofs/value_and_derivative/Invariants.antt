@@ -1,11 +1,7 @@
-use mathlib.Core.Logic.{⊎_elim}
 use mathlib.Core.Path.{◌≡◌}
 use Prim.Native.Nat.{◌≤◌}
-use native.Mathlib.Omega.{arith}
-use borrow.Author.Rules.{rules}
 use lib.ListN.{length, drop}
-use Rattle.polynom.specs.Polynom.{sums_both, value_and_derivative}
-use Rattle.polynom.proofs.TermLaws.{sums_both_none, sums_both_more}
+use Rattle.polynom.specs.Polynom.{sums_both}
 use Rattle.polynom.proofs.value_and_derivative.Given as goal
 
 abbrev pub invariant-loop-i : goal.invariant-loop-i

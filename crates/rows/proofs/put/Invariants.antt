@@ -1,6 +1,4 @@
-use borrow.Author.Rules.{rules}
-use native.Mathlib.Omega.{arith}
-use Rattle.rows.proofs.PutLaws.{Putting, put_starts, put_on, put_last, one_length, room_left}
+use Rattle.rows.proofs.PutLaws.{Putting}
 use Rattle.rows.proofs.put.Given as goal
 
 abbrev pub invariant-loop-m : goal.invariant-loop-m

@@ -1,7 +1,4 @@
 use Rattle.rows.proofs.TakeLaws.{tenth_ends, tenth_is, tenth_passes}
-use borrow.Author.Rules.{rules}
-use Rattle.rows.proofs.take_tenth.Reads as reads
-use Rattle.rows.proofs.take_tenth.Lts as lts
 use Rattle.rows.proofs.take_tenth.Goals as goal
 
 pub returns-then-s-p : goal.returns-then-s-p

@@ -1,7 +1,6 @@
 -- `searching::alike` meets its contract. Assumes nothing.
 use Rattle.searching.specs.Programs.{product_departs}
 use Rattle.searching.proofs.RuleLaws.{unequal_differ}
-use borrow.Author.Rules.{rules}
 use Rattle.searching.proofs.alike.Goals as goal
 
 pub returns : goal.returns

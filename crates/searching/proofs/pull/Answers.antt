@@ -1,6 +1,5 @@
 -- `searching::pull` meets its contract. Assumes nothing.
 use Rattle.searching.proofs.RuleLaws.{placed_outside, placed_inside}
-use borrow.Author.Rules.{rules}
 use Rattle.searching.proofs.pull.Goals as goal
 
 pub returns-then-is_outside : goal.returns-then-is_outside

@@ -1,6 +1,5 @@
 use Rattle.numerical.proofs.Choices.{choices}
 use Rattle.simple_convergency.specs.Stop.{bad_tolerance}
-use borrow.Author.Rules.{rules}
 use Rattle.simple_convergency.proofs.is_bad_tolerance.Goals as goal
 
 pub returns-then-is_finite : goal.returns-then-is_finite

@@ -1,5 +1,4 @@
 use Rattle.numerical.proofs.AnswerLaws.{by_kind}
-use borrow.Author.Rules.{rules}
 use Rattle.numerical.proofs.Answer.kind.Goals as goal
 
 pub returns-in-Refused : goal.returns-in-Refused

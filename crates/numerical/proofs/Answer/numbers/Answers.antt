@@ -1,5 +1,4 @@
 use Rattle.numerical.proofs.AnswerLaws.{by_numbers}
-use borrow.Author.Rules.{rules}
 use Rattle.numerical.proofs.Answer.numbers.Goals as goal
 
 pub returns-in-ByValue : goal.returns-in-ByValue

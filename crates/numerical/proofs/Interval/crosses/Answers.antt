@@ -1,6 +1,5 @@
 use Rattle.numerical.proofs.Choices.{choices}
 use Rattle.numerical.specs.Middle.{crosses}
-use borrow.Author.Rules.{rules}
 use Rattle.numerical.proofs.Interval.crosses.Goals as goal
 
 pub returns-then-same_sign : goal.returns-then-same_sign

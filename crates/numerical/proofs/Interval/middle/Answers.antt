@@ -1,7 +1,6 @@
 -- `numerical::Interval::middle` meets its contract. Assumes nothing.
 use mathlib.Core.Path.{◌≡◌}
 use lib.Ieee.{Float, binary64, add}
-use borrow.Author.Rules.{rules}
 use Rattle.numerical.proofs.Choices.{choices}
 use Rattle.numerical.specs.Middle.{at_least, at_most, middle_of}
 use Rattle.numerical.proofs.Interval.middle.Goals as goal

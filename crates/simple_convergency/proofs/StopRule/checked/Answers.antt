@@ -1,5 +1,4 @@
 use Rattle.simple_convergency.proofs.StopLaws.{value_bad, point_bad, tolerance_refused, limit_refused, rule_given}
-use borrow.Author.Rules.{rules}
 use Rattle.simple_convergency.proofs.StopRule.checked.Goals as goal
 
 pub returns-then-is_bad_tolerance : goal.returns-then-is_bad_tolerance

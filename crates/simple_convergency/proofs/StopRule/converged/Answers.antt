@@ -1,5 +1,4 @@
 use Rattle.simple_convergency.specs.Stop.{converged_at}
-use borrow.Author.Rules.{rules}
 use Rattle.simple_convergency.proofs.StopRule.converged.Goals as goal
 
 pub returns : goal.returns

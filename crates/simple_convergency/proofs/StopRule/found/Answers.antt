@@ -1,5 +1,4 @@
 use Rattle.simple_convergency.specs.Stop.{found_at}
-use borrow.Author.Rules.{rules}
 use Rattle.simple_convergency.proofs.StopRule.found.Goals as goal
 
 pub returns : goal.returns
