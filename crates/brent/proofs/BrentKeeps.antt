@@ -1,4 +1,4 @@
--- Every answer of Brent's method has its reason, its pairs lie each within the one before with signs not the same, and its root lies between the starts.
+-- The opening of Brent's method, and a step up to the next pair, keep what is promised of its answer, its pairs and its root.
 use Rattle.std.specs.Prelude.{ℕ, suc, Bool, true, cond, ◌||◌, List, [], ◌∷◌, ◌≡◌, T, Float}
 use Rattle.std.proofs.Math.Bool.{false}
 use Rattle.std.proofs.Common.{inl, inr, ◌∙◌}
@@ -50,11 +50,11 @@ either_kept P i p f g = go (keeps_a i p) refl
     go false e = g e
 
 -- the point that is used fits its format
-used_held : (bisecting : Bool) (s : Brent) (x : Float) → T (fits binary64 x) → T (fits binary64 (used_of bisecting s x))
+pub used_held : (bisecting : Bool) (s : Brent) (x : Float) → T (fits binary64 x) → T (fits binary64 (used_of bisecting s x))
 unfolding used_of
 used_held bisecting s x f = cond-fits binary64 bisecting _ _ (div-fits binary64 _ _) f
 
-guess_held : (s : Brent) → T (fits binary64 (guess_of s))
+pub guess_held : (s : Brent) → T (fits binary64 (guess_of s))
 unfolding guess_of inverse_quadratic chord
 guess_held s = cond-fits binary64 (three_values s) _ _ (add-fits binary64 _ _) (sub-fits binary64 _ _)
 
@@ -67,9 +67,9 @@ module _ (a : List Float) (stop : StopRule) (good : above stop.tolerances.value 
   Stands n s h = Bracketing a stop from to n (pair_of s) h
 
   -- with n steps left: the pair is a bracket, and c, which may lie outside of it, is a double between the starts
-  record Inv (n : ℕ) (s : Brent) (h : List Event) : Type 0 where
-    bracket : Stands n s h
-    c_between : Inside from to s.c.x × Double s.c.x
+  pub record Inv (n : ℕ) (s : Brent) (h : List Event) : Type 0 where
+    pub bracket : Stands n s h
+    pub c_between : Inside from to s.c.x × Double s.c.x
 
   abbrev Reaches : ℕ → Prog (Turned Brent) → List Event → Type 0
   Reaches n g h = Ends (oracle a) (After (Inv n) (Bracket a stop from to)) g h
@@ -96,7 +96,7 @@ module _ (a : List Float) (stop : StopRule) (good : above stop.tolerances.value 
   unfolding first_at
   keeps_first p h i t = unpaired_value i to to-double (λ q u j. keeps_second p q _ j t u)
 
-  keeps_opening : Reaches (turns_of stop) (opening stop from to) []
+  pub keeps_opening : Reaches (turns_of stop) (opening stop from to) []
   unfolding opening
   keeps_opening = unpaired_value unpaired_none from from-double (λ p t i. keeps_first p _ i t)
 
@@ -114,7 +114,7 @@ module _ (a : List Float) (stop : StopRule) (good : above stop.tolerances.value 
     -- the test found(a) of this round missed, so a's value is above zero or below
     module _ (away : (above s.a.y || below s.a.y) ≡ true) where
       -- the value at the kept end is the state's, and has not the sign of the new sample's
-      keeps_arrived : (flag : Bool) (p : Sample) (h : List Event) → Stands (suc n) s h → Fit a (pair_of s) p → Reaches n (arrived s flag p) h
+      pub keeps_arrived : (flag : Bool) (p : Sample) (h : List Event) → Stands (suc n) s h → Fit a (pair_of s) p → Reaches n (arrived s flag p) h
       unfolding arrived pairs_in steps_in some_ends
       keeps_arrived flag p h b t =
           let k = ends_fit (bracket_backed b) in
@@ -124,36 +124,3 @@ module _ (a : List Float) (stop : StopRule) (good : above stop.tolerances.value 
           (either_kept (λ r. Reaches n (completes s flag r) i) (pair_of s) p
           (λ e. keeps_arranged flag s.a p i c k.0 t (search apart))
           (λ e. keeps_arranged flag p s.b i c t k.1 (search (other_kept, (bracket_backed b).not_alike))))
-
-      keeps_landed : (flag : Bool) (x : Float) (h : List Event) → Stands (suc n) s h → In (points_of (pair_of s)) x → Double x → Reaches n (landed s flag x) h
-      unfolding landed
-      keeps_landed flag x h b i d = bracket_value b x d (λ p t c. keeps_arrived flag p _ c (answered_fit t d i))
-
-      keeps_pulled : (flag : Bool) (x : Float) (h : List Event) → Stands (suc n) s h → Double x → Reaches n (pulled_in s flag x) h
-      unfolding pulled_in pairs_in steps_in some_ends
-      keeps_pulled flag x h b d = let w = bracket_pulled b x d in ends_pulled _ _ _ x (keeps_landed flag _ _ (bracket_on b refl refl refl) (search w) (search w))
-
-      keeps_with : (bisecting : Bool) (x : Float) (h : List Event) → Stands (suc n) s h → T (fits binary64 x) → Reaches n (step_with s bisecting x) h
-      unfolding step_with pairs_in steps_in some_ends
-      keeps_with bisecting x h b f =
-          ends_offered _ _ (bracket_no_candidate b _)
-          (λ c. keeps_pulled bisecting _ _ (bracket_on b refl refl (rw c refl)) (record { is_finite = of_true _ c; is_held = used_held bisecting s x f }))
-
-      keeps_from : (h : List Event) → Stands (suc n) s h → Reaches n (step_from stop s (guess_of s)) h
-      unfolding step_from
-      keeps_from h b = keeps_with _ _ h b (guess_held s)
-
-    keeps_turn : (h : List Event) → Inv (suc n) s h → Reaches n (turn_from stop s) h
-    unfolding turn_from found_at pairs_in steps_in some_ends
-    keeps_turn h i =
-        let b = i.bracket in
-        let w = ends_fit (bracket_backed b) in
-        ends_stops stop _ (λ e. ends_done (bracket_found b _ w.0 e))
-        (λ e. ends_stops stop _ (λ f. ends_done (bracket_found (bracket_on b refl refl (rw e refl)) _ w.1 f))
-        (λ f. ends_stops stop _ (λ g. ends_done (record { reason = by_width (double_finite i.c_between.1) g (bracket_going (bracket_on b refl refl (rw (e, f) refl))); narrows = bracket_narrows b; told = i.c_between }))
-        (λ g. keeps_from (not_found _ _ (finite_num _ (of_true _ w.0.is_sample.is_finite)) good e) _ (bracket_on b refl refl (rw (e, f, g) refl)))))
-
-  -- every search of Brent's method from two finite doubles ends as is promised of a bracketing search
-  pub brent_ends : Ends (oracle a) (Bracket a stop from to) (brent_program stop from to) []
-  unfolding brent_program
-  brent_ends = ends_searches (λ r. turns_of stop) (turn_from stop) Inv (Bracket a stop from to) keeps_opening keeps_turn (λ s h i. bracket_limit i.bracket)

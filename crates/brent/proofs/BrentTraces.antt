@@ -1,4 +1,4 @@
--- Every Brent history has its events in order, a pair for the opening and one for each step, and c is the earlier b.
+-- The opening of Brent's method, and a step up to the next pair, with their events in order.
 use Rattle.std.specs.Prelude.{Bool, List, [], ◌∷◌, ◌≡◌, Float}
 use Rattle.std.proofs.Math.Logic.{inl, inr}
 use Rattle.std.proofs.Math.Path.{refl}
@@ -19,14 +19,14 @@ use Rattle.brent.specs.declared.Arranged.{Arranged}
 use Rattle.brent.specs.declared.Brent.{Brent}
 
 module _ (a : List Float) (stop : StopRule) (from to : Float) where
-  abbrev Stands : Brent → List Event → Type 0
+  abbrev pub Stands : Brent → List Event → Type 0
   Stands s h = Tracing (Follows from to) (pair_of s) h
 
   -- the newest pair is the state's, c the earlier b, and the candidate before was evaluated
-  abbrev Inv : Brent → List Event → Type 0
+  abbrev pub Inv : Brent → List Event → Type 0
   Inv s h = Stands s h × IsC s.c.x (pairs_in h) × Tried h
 
-  abbrev Reaches : Prog (Turned Brent) → List Event → Type 0
+  abbrev pub Reaches : Prog (Turned Brent) → List Event → Type 0
   Reaches g h = Ends (oracle a) (After Inv (Traced (Follows from to) Gives)) g h
 
   -- ---- the opening
@@ -44,7 +44,7 @@ module _ (a : List Float) (stop : StopRule) (from to : Float) where
   unfolding first_at evaluations_in evaluated_since
   traces_first p h l o = opening_value to (λ e. inr (inl (At p, l, refl))) o (λ q b. traces_second p q _ (rw l refl) (_, _, refl) b)
 
-  traces_opening : Reaches (opening stop from to) []
+  pub traces_opening : Reaches (opening stop from to) []
   unfolding opening evaluations_in
   traces_opening = opening_value from (λ e. inl (refl, refl)) opening_none (λ p b. traces_first p _ refl b)
 
@@ -60,7 +60,7 @@ module _ (a : List Float) (stop : StopRule) (from to : Float) where
         (tracing_narrows pair_of _ (inr f) (_, _, refl) t (λ u. (u, rw t.newest refl, z)))
         (tracing_narrows pair_of _ (inr g) (_, _, refl) t (λ u. (u, rw t.newest refl, z)))
 
-    traces_arrived : (flag : Bool) (p : Sample) (h : List Event) → Answered p h → Stands s h → Reaches (arrived s flag p) h
+    pub traces_arrived : (flag : Bool) (p : Sample) (h : List Event) → Answered p h → Stands s h → Reaches (arrived s flag p) h
     unfolding arrived pairs_in evaluated_since
     traces_arrived flag p h (x, l) t =
         let i = noted (ruled 1 (step_departs s.a p)) ∷ h in
@@ -69,29 +69,3 @@ module _ (a : List Float) (stop : StopRule) (from to : Float) where
         (λ u. either_kept (λ r. Reaches (completes s flag r) i) (pair_of s) p
         (λ e. traces_next flag s.a p i (pair_of s, p, n, (x, l), inr (rw e refl)) (pair_of s, p, n, (x, l), inl (rw e refl)) (_, _, l) u)
         (λ e. traces_next flag p s.b i (pair_of s, p, n, (x, l), inl (rw e refl)) (pair_of s, p, n, (x, l), inr (rw e refl)) (_, _, l) u))
-
-    traces_landed : (flag : Bool) (x : Float) (h : List Event) → PulledNow x h → Stands s h → Reaches (landed s flag x) h
-    unfolding landed evaluated_since
-    traces_landed flag x h k t = tracing_value x (λ e. inr (inr k)) t (λ p u. traces_arrived flag p _ (x, rw k.3.1 refl) u)
-
-    traces_with : (bisecting : Bool) (guess : Float) (h : List Event) → Tried h → Stands s h → Reaches (step_with s bisecting guess) h
-    unfolding step_with pulled_in pairs_in candidates_in evaluated_since
-    traces_with bisecting guess h z t =
-        let n = tracing_newest t in
-        tracing_candidate (landed s bisecting) _ _ _ ((pair_of s, n), z) (inr (refl, (pair_of s, _, n, (_, refl), refl))) t
-        (λ u. traces_landed bisecting _ _ (pair_of s, _, n, ((_, refl), refl), refl) u)
-
-    traces_turn : (h : List Event) → Inv s h → Reaches (turn_from stop s) h
-    unfolding turn_from step_from pairs_in evaluated_since
-    traces_turn h (t, c, z) =
-        let n = tracing_newest t in
-        let points : PointsOf s.a.x s.b.x h = (pair_of s, n, refl, refl) in
-        tracing_stops stop (found s.a) (λ b. refl) (λ b. (pair_of s, n, inl refl)) t (λ u. ends_done (traced_end tt u))
-        (λ u. tracing_stops stop (found s.b) (λ b. refl) (λ b. (pair_of s, n, inr refl)) u (λ v. ends_done (traced_end tt v))
-        (λ v. tracing_stops stop (converged s.a.x s.b.x) (λ b. refl) (λ b. points) v (λ w. ends_done (traced_end (points, c) w))
-        (λ w. traces_with _ _ _ z w)))
-
-  -- every search of Brent's method
-  pub brent_traced : Ends (oracle a) (Traced (Follows from to) Gives) (brent_program stop from to) []
-  unfolding brent_program
-  brent_traced = ends_searches (λ r. turns_of stop) (turn_from stop) (λ n. Inv) (Traced (Follows from to) Gives) traces_opening (λ n s h t. traces_turn s h t) (λ s h t. traced_end tt t.0)

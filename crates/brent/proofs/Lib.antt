@@ -7,3 +7,6 @@ pub mod BrentRule
 pub mod BrentRust
 pub mod BrentSamples
 pub mod BrentTraces
+pub mod BrentTurns
+pub mod BrentEnds
+pub mod BrentTraced

@@ -2,7 +2,7 @@
 use Rattle.std.specs.Prelude.{ℕ, ◌≤◌, List, ◌≡◌, Float}
 use Rattle.std.proofs.Common.{arith}
 use Rattle.simple_convergency.specs.declared.StopRule.{StopRule}
-use Rattle.brent.proofs.BrentLaws.{brent_values, brent_derivatives}
+use Rattle.brent.proofs.BrentTurns.{brent_values, brent_derivatives}
 use Rattle.regula_falsi.proofs.RegulaFalsiLaws.{regula_falsi_values, regula_falsi_derivatives}
 use Rattle.secant.proofs.SecantLaws.{secant_values, secant_derivatives}
 use Rattle.newton_raphson.proofs.NewtonRaphsonLaws.{newton_raphson_values, newton_raphson_derivatives}

@@ -16,7 +16,7 @@ use Rattle.polynom.specs.Polynom.{value}
 use Rattle.searching.specs.Brackets.{Told, Bracket}
 use Rattle.searching.specs.Reasons.{Reason, by_value, by_width, by_middle, of_signs, of_flatness, of_limit, of_value, of_derivative, of_candidate, of_middle}
 use Rattle.searching.proofs.Keeps.{Ends}
-use Rattle.brent.proofs.BrentKeeps.{brent_ends}
+use Rattle.brent.proofs.BrentEnds.{brent_ends}
 use Rattle.regula_falsi.proofs.RegulaFalsiKeeps.{regula_falsi_ends}
 use Rattle.secant.proofs.SecantKeeps.{secant_ends}
 use Rattle.newton_raphson.proofs.NewtonRaphsonKeeps.{newton_raphson_ends}

@@ -16,7 +16,7 @@ use Rattle.searching.proofs.Keeps.{Ends}
 use Rattle.searching.specs.Histories.{counted}
 use Rattle.searching.specs.Programs.{flat, tested, noted, Event, oracle, answer_of}
 use Rattle.searching.specs.Reasons.{Reason, of_signs, of_flatness, of_limit, of_value, of_derivative, of_candidate, of_middle}
-use Rattle.brent.proofs.BrentTraces.{brent_traced}
+use Rattle.brent.proofs.BrentTraced.{brent_traced}
 use Rattle.regula_falsi.proofs.RegulaFalsiTraces.{regula_falsi_traced}
 use Rattle.secant.proofs.SecantOrdered.{secant_ordered}
 use Rattle.newton_raphson.proofs.NewtonRaphsonTraces.{newton_raphson_ordered}

@@ -1,6 +1,6 @@
 use Rattle.numerical.proofs.TallyLaws.{room}
 use Rattle.searching.proofs.LoopLaws.{opened_room}
-use Rattle.brent.proofs.BrentLaws.{from_end, from_state, small_opening}
+use Rattle.brent.proofs.BrentTurns.{from_end, from_state, small_opening}
 use native.Mathlib.Omega.{arith}
 use borrow.Author.Rules.{rules}
 use Rattle.brent.proofs.find_root.Goals as goal

@@ -1,6 +1,6 @@
 use Rattle.searching.specs.Loops.{run_of}
 use Rattle.searching.proofs.LoopLaws.{Loops, loops_first, loops_next, loops_room, loops_ended, loops_out}
-use Rattle.brent.proofs.BrentLaws.{turns}
+use Rattle.brent.proofs.BrentTurns.{turns}
 use Rattle.brent.specs.Brent.{turn_from}
 use Prim.Native.Nat.{◌-◌}
 use native.Mathlib.Omega.{arith}
