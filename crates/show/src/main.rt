@@ -8,9 +8,9 @@ ghost use Rattle.record_text.specs.RecordTexts.{longest_line};
 ghost use Rattle.records.specs.Records.{longest_record};
 ghost use Rattle.show.specs.Streams.{Filled};
 
-use libc::{STDIN_FILENO, STDOUT_FILENO};
 use record_text::record::LONGEST_LINE;
 use records::Record;
+use std::io::{Read, Stdin, Stdout, Write};
 
 // Up to which byte a part of a block is shown, how many bytes of lines wait, and whether each was of a record.
 #[derive(Clone, Copy)]
@@ -63,8 +63,13 @@ fn fill(block: &[u8], from: usize, least: usize, out: &mut [u8]) -> Pause
     }
 }
 
+// Writes lines, and tells whether all of them could be written.
+fn written(mut output: Stdout, lines: &[u8]) -> bool {
+    output.write_all(lines).is_ok()
+}
+
 // Shows a block while `least` bytes are left of it. Each time the lines have filled their buffer they are written.
-fn shown(block: &[u8], least: usize, out: &mut [u8]) -> Reached
+fn shown(output: Stdout, block: &[u8], least: usize, out: &mut [u8]) -> Reached
     requires { (1 ≤ least) × (longest_line ≤ length out.old) }
     ensures at_in_bounds { result.at ≤ length block.now }
     ensures block_len_bound { result.is_open ≡ true → length block.now < result.at + least }
@@ -73,7 +78,7 @@ fn shown(block: &[u8], least: usize, out: &mut [u8]) -> Reached
     while least <= block.len() - at {
         let p = fill(block, at, least, out);
         let waiting = p.waiting;
-        let is_written = io::write_all(STDOUT_FILENO, &out[..waiting]);
+        let is_written = written(output, &out[..waiting]);
         if !is_written {
             return Reached { at, is_open: false };
         }
@@ -101,30 +106,42 @@ fn moved(block: &mut [u8], from: usize, to: usize) -> usize
 }
 
 // Shows what is left at the input's end.
-fn closed(block: &[u8], out: &mut [u8]) -> Turn
+fn closed(output: Stdout, block: &[u8], out: &mut [u8]) -> Turn
     requires { longest_line ≤ length out.old }
     ensures { result.kept ≡ 0 }
 {
-    shown(block, 1, out);
+    shown(output, block, 1, out);
     Turn {
         kept: 0,
         is_open: false,
     }
 }
 
+// Reads as many bytes as have come and find room, and tells how many they are. A read that fails counts as the input's end.
+fn read_some(mut input: Stdin, room: &mut [u8]) -> usize
+    ensures { result ≤ length room.new }
+{
+    input.read(room).unwrap_or(0)
+}
+
 // Reads what comes behind the bytes that are left, and shows its records. What is refused with as many bytes at
-// hand as the longest record has is no record, whatever follows.
-fn read_block(block: &mut [u8], kept: usize, out: &mut [u8]) -> Turn
+// hand as the longest record has is no record, whatever follows. A read that fails counts as the input's end.
+fn read_block(
+    mut input: Stdin,
+    output: Stdout,
+    block: &mut [u8],
+    kept: usize,
+    out: &mut [u8],
+) -> Turn
     requires { (kept ≤ longest_record) × (longest_record < length block.old) × (longest_line ≤ length out.old) }
     ensures { result.kept ≤ longest_record }
 {
-    let got = libc::read(STDIN_FILENO, &mut block[kept..]);
-    if got <= 0 {
-        return closed(&block[..kept], out);
+    let n = read_some(input, &mut block[kept..]);
+    if n == 0 {
+        return closed(output, &block[..kept], out);
     }
-    let n = io::count(got, &block[kept..]);
     let end = kept + n;
-    let s = shown(&block[..end], Record::LONGEST, out);
+    let s = shown(output, &block[..end], Record::LONGEST, out);
     if s.is_open {
         return Turn {
             kept: moved(block, s.at, end),
@@ -139,14 +156,16 @@ fn read_block(block: &mut [u8], kept: usize, out: &mut [u8]) -> Turn
 
 // A proved loop has to end, and nothing says that the input does: so the turns are counted down, from a number that no
 // run uses up.
-fn main() {
+fn main(rt: HostRuntime) {
+    let input = rt.stdin();
+    let output = rt.stdout();
     let mut block = io::large_buffer();
     let mut out = io::large_buffer();
     let mut kept = 0;
     let mut is_open = true;
     let mut turns = u64::MAX;
     while turns > 0 && is_open {
-        let t = read_block(&mut block, kept, &mut out);
+        let t = read_block(input, output, &mut block, kept, &mut out);
         kept = t.kept;
         is_open = t.is_open;
         turns -= 1;
