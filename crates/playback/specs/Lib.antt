@@ -1,3 +1,4 @@
 -- What the contracts of `playback` cite.
 pub mod Playback
+
 -- what proofs cite
