@@ -1,3 +1,3 @@
-// The theorems stand in specs/: what each public function's contract leaves open. There is no code here.
+// The theorems stand in proofs/: what each public function's contract leaves open. There is no code here.
 
 #![tactic(auto)]

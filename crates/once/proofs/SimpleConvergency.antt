@@ -5,7 +5,8 @@ use Rattle.simple_convergency.proofs.StopRule.found.Reads as found-reads
 use Rattle.simple_convergency.proofs.StopRule.flat.Reads as flat-reads
 use Rattle.simple_convergency.proofs.StopRule.converged.Reads as converged-reads
 use Rattle.simple_convergency.proofs.StopRule.turns.Reads as turns-reads
-use Rattle.once.specs.One.{One, fixed}
+use Rattle.once.specs.One.{One}
+use Rattle.once.proofs.Fixed.{fixed}
 
 pub both_once : One both-reads.Learnt
 both_once = fixed _ _

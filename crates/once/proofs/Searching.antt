@@ -2,7 +2,8 @@
 use Rattle.searching.proofs.pull.Reads as pull-reads
 use Rattle.searching.proofs.alike.Reads as alike-reads
 use Rattle.searching.proofs.in_order.Reads as in-order-reads
-use Rattle.once.specs.One.{One, fixed}
+use Rattle.once.specs.One.{One}
+use Rattle.once.proofs.Fixed.{fixed}
 
 pub pull_once : One pull-reads.Learnt
 pull_once = fixed _ _

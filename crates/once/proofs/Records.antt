@@ -3,7 +3,8 @@ use Rattle.std.specs.Prelude.{ℕ, List}
 use Rattle.std.proofs.Common.{sym, ◌∙◌}
 use Rattle.records.proofs.read.Reads as read-reads
 use Rattle.records.proofs.write.Reads as write-reads
-use Rattle.once.specs.One.{One, Last, fixed}
+use Rattle.once.specs.One.{One, Last}
+use Rattle.once.proofs.Fixed.{fixed}
 
 pub read_once : One read-reads.Learnt
 read_once = fixed _ _

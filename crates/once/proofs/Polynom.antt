@@ -3,7 +3,8 @@ use Rattle.polynom.proofs.value.Reads as value-reads
 use Rattle.polynom.proofs.value_and_derivative.Reads as value-and-derivative-reads
 use Rattle.polynom.proofs.evaluate.Reads as evaluate-reads
 use Rattle.polynom.proofs.evaluate_both.Reads as evaluate-both-reads
-use Rattle.once.specs.One.{One, fixed}
+use Rattle.once.specs.One.{One}
+use Rattle.once.proofs.Fixed.{fixed}
 
 pub value_once : One value-reads.Learnt
 value_once = fixed _ _

@@ -11,7 +11,8 @@ use Rattle.doubles.proofs.order_of.Reads as order-of-reads
 use Rattle.doubles.proofs.of_order.Reads as of-order-reads
 use Rattle.doubles.proofs.pulled.Reads as pulled-reads
 use Rattle.doubles.proofs.is_outside.Reads as is-outside-reads
-use Rattle.once.specs.One.{One, fixed}
+use Rattle.once.specs.One.{One}
+use Rattle.once.proofs.Fixed.{fixed}
 
 pub from_pattern_once : One from-pattern-reads.Learnt
 from_pattern_once = fixed _ _

@@ -5,7 +5,8 @@ use Rattle.roots_c.proofs.roots_search.Reads as roots-search-reads
 use Rattle.roots_c.proofs.roots_version.Reads as roots-version-reads
 use Rattle.roots_c.proofs.roots_record_write.Reads as roots-record-write-reads
 use Rattle.roots_c.proofs.roots_record_read.Reads as roots-record-read-reads
-use Rattle.once.specs.One.{One, Last, fixed}
+use Rattle.once.specs.One.{One, Last}
+use Rattle.once.proofs.Fixed.{fixed}
 
 pub roots_version_once : One roots-version-reads.Learnt
 roots_version_once = fixed _ _

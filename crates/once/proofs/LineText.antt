@@ -21,7 +21,8 @@ use Rattle.line_text.specs.FieldLaws.{field_fixed}
 use Rattle.line_text.specs.InputLaws.{state_fixed, buffer_fixed, replies_fixed}
 use Rattle.line_text.specs.ReadingLaws.{reading_fixed}
 use Rattle.line_text.specs.TextLaws.{put_fixed}
-use Rattle.once.specs.One.{One, Last, fixed}
+use Rattle.once.specs.One.{One, Last}
+use Rattle.once.proofs.Fixed.{fixed}
 
 -- ---- call: what was read, then the array `a`
 

@@ -7,7 +7,8 @@ use Rattle.numerical.proofs.Progress.ruled.Reads as ruled-reads
 use Rattle.numerical.proofs.Outcome.refused_at_once.Reads as refused-at-once-reads
 use Rattle.numerical.proofs.Interval.crosses.Reads as crosses-reads
 use Rattle.numerical.proofs.Interval.middle.Reads as middle-reads
-use Rattle.once.specs.One.{One, fixed}
+use Rattle.once.specs.One.{One}
+use Rattle.once.proofs.Fixed.{fixed}
 
 pub fresh_once : One fresh-reads.Learnt
 fresh_once = fixed _ _

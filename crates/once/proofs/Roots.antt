@@ -10,7 +10,8 @@ use Rattle.roots.proofs.find_root_polynom.Reads as find-root-polynom-reads
 use Rattle.roots.proofs.Method.numbered.Reads as numbered-reads
 use Rattle.roots.proofs.Method.start_count.Reads as start-count-reads
 use Rattle.roots.proofs.Method.number.Reads as number-reads
-use Rattle.once.specs.One.{One, fixed}
+use Rattle.once.specs.One.{One}
+use Rattle.once.proofs.Fixed.{fixed}
 
 pub search_once : One search-reads.Learnt
 search_once = fixed _ _
