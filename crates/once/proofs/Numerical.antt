@@ -4,6 +4,9 @@ use Rattle.numerical.proofs.Progress.valued.Reads as valued-reads
 use Rattle.numerical.proofs.Progress.sloped.Reads as sloped-reads
 use Rattle.numerical.proofs.Progress.stepped.Reads as stepped-reads
 use Rattle.numerical.proofs.Progress.ruled.Reads as ruled-reads
+use Rattle.numerical.proofs.Progress.counts.Reads as counts-reads
+use Rattle.numerical.proofs.Answer.kind.Reads as kind-reads
+use Rattle.numerical.proofs.Answer.numbers.Reads as numbers-reads
 use Rattle.numerical.proofs.Outcome.refused_at_once.Reads as refused-at-once-reads
 use Rattle.numerical.proofs.Interval.crosses.Reads as crosses-reads
 use Rattle.numerical.proofs.Interval.middle.Reads as middle-reads
@@ -24,6 +27,15 @@ stepped_once = fixed _ _
 
 pub ruled_once : One ruled-reads.Learnt
 ruled_once = fixed _ _
+
+pub counts_once : One counts-reads.Learnt
+counts_once = fixed _ _
+
+pub kind_once : One kind-reads.Learnt
+kind_once = fixed _ _
+
+pub numbers_once : One numbers-reads.Learnt
+numbers_once = fixed _ _
 
 pub refused_at_once_once : One refused-at-once-reads.Learnt
 refused_at_once_once = fixed _ _
