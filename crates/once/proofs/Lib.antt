@@ -14,6 +14,8 @@ pub mod Brent
 pub mod Roots
 pub mod Rows
 pub mod Records
+pub mod Playback
+pub mod Blocks
 pub mod RootsC
 pub mod LineText
 pub mod RecordText
