@@ -125,14 +125,8 @@ fn read_some(mut input: Stdin, room: &mut [u8]) -> usize
 }
 
 // Reads what comes behind the bytes that are left, and shows its records. What is refused with as many bytes at
-// hand as the longest record has is no record, whatever follows. A read that fails counts as the input's end.
-fn read_block(
-    mut input: Stdin,
-    output: Stdout,
-    block: &mut [u8],
-    kept: usize,
-    out: &mut [u8],
-) -> Turn
+// hand as the longest record has is no record, whatever follows.
+fn read_block(input: Stdin, output: Stdout, block: &mut [u8], kept: usize, out: &mut [u8]) -> Turn
     requires { (kept ≤ longest_record) × (longest_record < length block.old) × (longest_line ≤ length out.old) }
     ensures { result.kept ≤ longest_record }
 {
