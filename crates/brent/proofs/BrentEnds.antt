@@ -1,30 +1,22 @@
 -- Every answer of Brent's method has its reason, its pairs lie each within the one before with signs not the same, and its root lies between the starts.
-use Rattle.std.specs.Prelude.{ℕ, suc, Bool, true, cond, ◌||◌, List, [], ◌∷◌, ◌≡◌, T, Float}
-use Rattle.std.proofs.Math.Bool.{false}
-use Rattle.std.proofs.Common.{inl, inr, ◌∙◌}
+use Rattle.std.specs.Prelude.{ℕ, suc, Bool, true, ◌||◌, List, [], ◌≡◌, T, Float}
 use Rattle.std.proofs.Math.Path.{refl}
 use Rattle.std.specs.Float.{binary64}
-use Rattle.std.specs.Float.Ieee.{fits, lt}
-use Rattle.std.specs.Float.Ieee.Fits.{cond-fits, add-fits, sub-fits, div-fits}
+use Rattle.std.specs.Float.Ieee.{fits}
 use Rattle.doubles.proofs.Compare.{of_true, finite_num}
-use Rattle.doubles.specs.Doubles.{absolute, above, below, same_sign}
+use Rattle.doubles.specs.Doubles.{above, below}
 use Rattle.doubles.proofs.Number.{Double}
-use Rattle.doubles.proofs.Pairs.{In, Inside}
-use Rattle.doubles.proofs.Products.{product_below}
-use Rattle.doubles.proofs.Signs.{same_symmetric, opposite_not_same, other_kept, not_found}
-use Rattle.numerical.specs.declared.Interval.{Interval}
-use Rattle.numerical.specs.declared.Sample.{Sample}
+use Rattle.doubles.proofs.Pairs.{In}
+use Rattle.doubles.proofs.Signs.{not_found}
 use Rattle.simple_convergency.specs.Stop.{found_at, turns_of}
 use Rattle.simple_convergency.specs.declared.StopRule.{StopRule}
-use Rattle.searching.specs.Programs.{ruled, oracle, Event, noted, Prog, Turned}
+use Rattle.searching.specs.Programs.{oracle, Event, Prog, Turned}
 use Rattle.searching.specs.Histories.{steps_in}
-use Rattle.searching.proofs.Keeps.{Ends, After, ends_done, ends_log, ends_stops, ends_pulled, ends_offered, ends_narrows, ends_searches}
-use Rattle.searching.specs.Reasons.{some_ends, True, by_width}
-use Rattle.searching.proofs.ReasonLaws.{Answered}
-use Rattle.searching.specs.Brackets.{pairs_in, points_of, Fit, AtStarts, Bracket, Unpaired, Bracketing}
-use Rattle.searching.proofs.BracketLaws.{double_finite, answered_fit, ends_fit, unpaired_none, unpaired_value, bracketed_ends, bracket_backed, bracket_in, bracket_narrows, bracket_on, bracket_pulled, bracket_going, bracket_next, bracket_found, bracket_value, bracket_no_candidate, bracket_limit}
-use Rattle.brent.specs.Brent.{arrange, pair_of, start_of, opened, second_at, first_at, opening, inverse_quadratic, chord, three_values, guess_of, used_of, next_of, completes, keeps_a, pair_after, step_departs, arrived, landed, pulled_in, step_with, step_from, turn_from, brent_program}
-use Rattle.brent.specs.declared.Arranged.{Arranged}
+use Rattle.searching.proofs.Keeps.{Ends, After, ends_done, ends_stops, ends_pulled, ends_offered, ends_searches}
+use Rattle.searching.specs.Reasons.{some_ends, by_width}
+use Rattle.searching.specs.Brackets.{pairs_in, points_of, Bracket, Bracketing}
+use Rattle.searching.proofs.BracketLaws.{double_finite, answered_fit, ends_fit, bracket_backed, bracket_narrows, bracket_on, bracket_pulled, bracket_going, bracket_found, bracket_value, bracket_no_candidate, bracket_limit}
+use Rattle.brent.specs.Brent.{pair_of, guess_of, landed, pulled_in, step_with, step_from, turn_from, brent_program}
 use Rattle.brent.specs.declared.Brent.{Brent}
 use Rattle.brent.proofs.BrentKeeps.{used_held, guess_held, Inv, keeps_opening, keeps_arrived}
 

@@ -6,24 +6,23 @@ use Rattle.std.proofs.Math.Path.{refl}
 use Rattle.std.specs.Float.{binary64}
 use Rattle.std.specs.Float.Ieee.{fits, lt}
 use Rattle.std.specs.Float.Ieee.Fits.{cond-fits, add-fits, sub-fits, div-fits}
-use Rattle.doubles.proofs.Compare.{of_true, finite_num}
 use Rattle.doubles.specs.Doubles.{absolute, above, below, same_sign}
 use Rattle.doubles.proofs.Number.{Double}
-use Rattle.doubles.proofs.Pairs.{In, Inside}
+use Rattle.doubles.proofs.Pairs.{Inside}
 use Rattle.doubles.proofs.Products.{product_below}
-use Rattle.doubles.proofs.Signs.{same_symmetric, opposite_not_same, other_kept, not_found}
+use Rattle.doubles.proofs.Signs.{same_symmetric, opposite_not_same, other_kept}
 use Rattle.numerical.specs.declared.Interval.{Interval}
 use Rattle.numerical.specs.declared.Sample.{Sample}
-use Rattle.simple_convergency.specs.Stop.{found_at, turns_of}
+use Rattle.simple_convergency.specs.Stop.{turns_of}
 use Rattle.simple_convergency.specs.declared.StopRule.{StopRule}
 use Rattle.searching.specs.Programs.{ruled, oracle, Event, noted, Prog, Turned}
 use Rattle.searching.specs.Histories.{steps_in}
-use Rattle.searching.proofs.Keeps.{Ends, After, ends_done, ends_log, ends_stops, ends_pulled, ends_offered, ends_narrows, ends_searches}
-use Rattle.searching.specs.Reasons.{some_ends, True, by_width}
+use Rattle.searching.proofs.Keeps.{Ends, After, ends_log, ends_narrows}
+use Rattle.searching.specs.Reasons.{some_ends, True}
 use Rattle.searching.proofs.ReasonLaws.{Answered}
-use Rattle.searching.specs.Brackets.{pairs_in, points_of, Fit, AtStarts, Bracket, Unpaired, Bracketing}
-use Rattle.searching.proofs.BracketLaws.{double_finite, answered_fit, ends_fit, unpaired_none, unpaired_value, bracketed_ends, bracket_backed, bracket_in, bracket_narrows, bracket_on, bracket_pulled, bracket_going, bracket_next, bracket_found, bracket_value, bracket_no_candidate, bracket_limit}
-use Rattle.brent.specs.Brent.{arrange, pair_of, start_of, opened, second_at, first_at, opening, inverse_quadratic, chord, three_values, guess_of, used_of, next_of, completes, keeps_a, pair_after, step_departs, arrived, landed, pulled_in, step_with, step_from, turn_from, brent_program}
+use Rattle.searching.specs.Brackets.{pairs_in, Fit, AtStarts, Bracket, Unpaired, Bracketing}
+use Rattle.searching.proofs.BracketLaws.{ends_fit, unpaired_none, unpaired_value, bracketed_ends, bracket_backed, bracket_in, bracket_on, bracket_next}
+use Rattle.brent.specs.Brent.{arrange, pair_of, start_of, opened, second_at, first_at, opening, inverse_quadratic, chord, three_values, guess_of, used_of, next_of, completes, keeps_a, pair_after, step_departs, arrived}
 use Rattle.brent.specs.declared.Arranged.{Arranged}
 use Rattle.brent.specs.declared.Brent.{Brent}
 

@@ -5,14 +5,13 @@ use Rattle.std.proofs.Math.Path.{refl}
 use Rattle.std.proofs.Common.{◌∙◌}
 use Rattle.numerical.specs.declared.Sample.{Sample}
 use Rattle.polynom.specs.declared.Evaluated.TheVariants.{At}
-use Rattle.simple_convergency.specs.Stop.{turns_of}
 use Rattle.simple_convergency.specs.declared.StopRule.{StopRule}
-use Rattle.searching.specs.Programs.{found, converged, ruled, oracle, Event, asked, noted, Prog, Turned}
+use Rattle.searching.specs.Programs.{ruled, oracle, Event, asked, noted, Prog, Turned}
 use Rattle.searching.specs.Brackets.{pairs_in}
-use Rattle.searching.specs.Events.{evaluations_in, candidates_in, evaluated_since, Tried, Answered, OfStarts, PointsOf, PulledNow, Traced, Opening, Tracing}
-use Rattle.searching.proofs.EventLaws.{opening_none, opening_value, tracing_newest, tracing_value, tracing_stops, tracing_candidate, tracing_ruled, tracing_narrows, traced_end, traced_bracketed}
-use Rattle.searching.proofs.Keeps.{Ends, After, ends_done, ends_searches}
-use Rattle.brent.specs.Brent.{arrange, pair_of, start_of, opened, second_at, first_at, opening, next_of, completes, step_departs, arrived, landed, pulled_in, step_with, step_from, turn_from, brent_program}
+use Rattle.searching.specs.Events.{evaluations_in, evaluated_since, Tried, Answered, OfStarts, Traced, Opening, Tracing}
+use Rattle.searching.proofs.EventLaws.{opening_none, opening_value, tracing_newest, tracing_ruled, tracing_narrows, traced_bracketed}
+use Rattle.searching.proofs.Keeps.{Ends, After}
+use Rattle.brent.specs.Brent.{arrange, pair_of, start_of, opened, second_at, first_at, opening, next_of, completes, step_departs, arrived}
 use Rattle.brent.proofs.BrentEvents.{Stepped, Follows, IsC, Gives}
 use Rattle.brent.proofs.BrentKeeps.{either_way, either_kept}
 use Rattle.brent.specs.declared.Arranged.{Arranged}

@@ -1,25 +1,21 @@
 -- The turns of Brent's method for the laws of loops, and the bounds of its tallies.
-use Rattle.std.specs.Prelude.{ℕ, ◌+◌, ◌*◌, ◌≤◌, Bool, true, false, List, ◌≡◌, Float}
-use Rattle.std.proofs.Common.{arith, ap, ◌∙◌}
+use Rattle.std.specs.Prelude.{ℕ, ◌+◌, ◌*◌, ◌≤◌, List, ◌≡◌, Float}
+use Rattle.std.proofs.Common.{arith}
 use Rattle.std.proofs.Math.Nat.{le_refl}
 use Rattle.std.proofs.Math.Path.{refl}
-use Rattle.std.specs.Float.Ieee.{lt}
-use Rattle.doubles.specs.Doubles.{absolute}
 use Rattle.numerical.specs.Answers.{outcome}
 use Rattle.numerical.specs.Tallies.{fresh}
 use Rattle.numerical.specs.declared.Answer.{Answer}
 use Rattle.numerical.specs.declared.Outcome.{Outcome}
 use Rattle.numerical.specs.declared.Progress.{Progress}
-use Rattle.numerical.specs.declared.Sample.{Sample}
 use Rattle.simple_convergency.specs.Stop.{turns_of}
 use Rattle.simple_convergency.specs.declared.StopRule.{StopRule}
-use Rattle.searching.specs.Programs.{Turned, oracle, play, tallied}
+use Rattle.searching.specs.Programs.{oracle, play, tallied}
 use Rattle.searching.specs.Bounds.{More, Within}
-use Rattle.searching.proofs.BoundLaws.{within_done, within_stops, within_ruled, within_pulled, within_value, within_offered, within_bracketed, within_narrows, within_less, within_searches, answer_within}
+use Rattle.searching.proofs.BoundLaws.{within_less, within_searches, answer_within}
 use Rattle.searching.specs.Loops.{Turns, run_of}
 use Rattle.searching.proofs.LoopLaws.{opened_ended, opened_next, Shown, shown_end, shown_go, seen_once}
-use Rattle.brent.specs.Brent.{arrange, pair_of, opened, second_at, first_at, opening, next_of, completes, keeps_a, pair_after, arrived, landed, pulled_in, step_with, step_from, turn_from, brent_program, brent, seen}
-use Rattle.brent.specs.declared.Arranged.{Arranged}
+use Rattle.brent.specs.Brent.{opening, turn_from, brent_program, brent, seen}
 use Rattle.brent.specs.declared.Brent.{Brent}
 use Rattle.brent.specs.declared.To.{To}
 use Rattle.brent.specs.declared.To.TheVariants.{Ended, Next}

@@ -4,12 +4,11 @@ use Rattle.std.proofs.Common.{inl, inr}
 use Rattle.std.proofs.Math.Path.{refl}
 use Rattle.numerical.specs.declared.Sample.{Sample}
 use Rattle.polynom.specs.declared.Evaluated.TheVariants.{At}
-use Rattle.simple_convergency.specs.Stop.{turns_of}
 use Rattle.simple_convergency.specs.declared.StopRule.{StopRule}
 use Rattle.searching.specs.Programs.{oracle, Event, asked, Prog, Turned}
 use Rattle.searching.specs.Events.{evaluations_in, candidates_in, evaluated_since, Untried, Tried, SampledTwo, LastPoint, Each, Ordered}
-use Rattle.searching.proofs.Keeps.{Ends, After, ends_done, ends_stops, ends_value, ends_offered, ends_steps, ends_searches}
-use Rattle.secant.specs.Secant.{second_at, first_at, opening, arrived, landed, turn_from, secant_program}
+use Rattle.searching.proofs.Keeps.{Ends, After, ends_done, ends_stops, ends_value, ends_steps}
+use Rattle.secant.specs.Secant.{second_at, first_at, opening, arrived, landed}
 use Rattle.secant.proofs.SecantEvents.{Follows, Gives}
 use Rattle.secant.specs.declared.Secant.{Secant}
 

@@ -1,5 +1,4 @@
 use Rattle.brent.proofs.BrentLaws.{first_larger, first_not_larger}
-use borrow.Author.Rules.{rules}
 use Rattle.brent.proofs.arrange.Goals as goal
 
 pub returns-then-abs : goal.returns-then-abs

@@ -1,6 +1,5 @@
 use Rattle.numerical.proofs.Choices.{choices}
 use Rattle.brent.specs.Brent.{bisects}
-use borrow.Author.Rules.{rules}
 use Rattle.brent.proofs.bisects.Goals as goal
 
 pub returns-then-beyond_quarter : goal.returns-then-beyond_quarter

@@ -1,6 +1,5 @@
 use Rattle.searching.proofs.StepLaws.{steps}
 use Rattle.brent.specs.Brent.{first_at}
-use borrow.Author.Rules.{rules}
 use Rattle.brent.proofs.first_at.Goals as goal
 
 pub returns-in_default : goal.returns-in_default

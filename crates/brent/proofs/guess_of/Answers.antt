@@ -1,6 +1,5 @@
 use Rattle.numerical.proofs.Choices.{choices}
 use Rattle.brent.specs.Brent.{guess_of}
-use borrow.Author.Rules.{rules}
 use Rattle.brent.proofs.guess_of.Goals as goal
 
 pub returns-then-three_values : goal.returns-then-three_values

@@ -1,6 +1,5 @@
 use Rattle.searching.proofs.StepLaws.{steps}
 use Rattle.brent.specs.Brent.{start_of, opened}
-use borrow.Author.Rules.{rules}
 use Rattle.brent.proofs.opened.Goals as goal
 
 pub returns-then-decided : goal.returns-then-decided

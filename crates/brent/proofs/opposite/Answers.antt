@@ -1,6 +1,5 @@
 use Rattle.searching.proofs.RuleLaws.{unequal_differ}
 use Rattle.brent.specs.Brent.{step_departs}
-use borrow.Author.Rules.{rules}
 use Rattle.brent.proofs.opposite.Goals as goal
 
 pub returns : goal.returns

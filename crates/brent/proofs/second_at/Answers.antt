@@ -1,5 +1,4 @@
 use Rattle.brent.specs.Brent.{second_at}
-use borrow.Author.Rules.{rules}
 use Rattle.brent.proofs.second_at.Goals as goal
 
 pub returns : goal.returns

@@ -1,6 +1,5 @@
 use Rattle.numerical.proofs.Choices.{choices}
 use Rattle.brent.specs.Brent.{stalls}
-use borrow.Author.Rules.{rules}
 use Rattle.brent.proofs.stalls.Goals as goal
 
 pub returns-then-too_slow : goal.returns-then-too_slow

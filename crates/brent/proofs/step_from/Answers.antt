@@ -1,5 +1,4 @@
 use Rattle.brent.specs.Brent.{step_from}
-use borrow.Author.Rules.{rules}
 use Rattle.brent.proofs.step_from.Goals as goal
 
 pub returns : goal.returns

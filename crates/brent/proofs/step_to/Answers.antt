@@ -1,6 +1,5 @@
 use Rattle.searching.proofs.StepLaws.{by_narrow_to}
 use Rattle.brent.proofs.BrentLaws.{moved_larger, moved_not_larger}
-use borrow.Author.Rules.{rules}
 use Rattle.brent.proofs.step_to.Goals as goal
 
 pub returns-then-abs : goal.returns-then-abs

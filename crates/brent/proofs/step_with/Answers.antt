@@ -1,6 +1,5 @@
 use Rattle.searching.proofs.StepLaws.{steps}
 use Rattle.brent.specs.Brent.{step_with}
-use borrow.Author.Rules.{rules}
 use Rattle.brent.proofs.step_with.Goals as goal
 
 pub returns-then-is_finite : goal.returns-then-is_finite

@@ -1,6 +1,5 @@
 use mathlib.Core.Path.{refl}
 use Rattle.brent.specs.Brent.{too_slow}
-use borrow.Author.Rules.{rules}
 use Rattle.brent.proofs.too_slow.Goals as goal
 
 pub returns : goal.returns

@@ -1,6 +1,5 @@
 use Rattle.searching.proofs.StepLaws.{steps}
 use Rattle.newton_raphson.specs.NewtonRaphson.{landed}
-use borrow.Author.Rules.{rules}
 use Rattle.newton_raphson.proofs.landed.Goals as goal
 
 pub returns-then-converged : goal.returns-then-converged

@@ -1,6 +1,5 @@
 use Rattle.searching.proofs.StepLaws.{steps}
 use Rattle.newton_raphson.specs.NewtonRaphson.{later_at}
-use borrow.Author.Rules.{rules}
 use Rattle.newton_raphson.proofs.later_at.Goals as goal
 
 pub returns-then-found : goal.returns-then-found

@@ -1,6 +1,5 @@
 use Rattle.searching.proofs.StepLaws.{steps}
 use Rattle.newton_raphson.specs.NewtonRaphson.{nudged_to, nudge}
-use borrow.Author.Rules.{rules}
 use Rattle.newton_raphson.proofs.nudge.Goals as goal
 
 pub returns-then-is_finite : goal.returns-then-is_finite

@@ -1,6 +1,5 @@
 use Rattle.searching.proofs.StepLaws.{steps}
 use Rattle.newton_raphson.specs.NewtonRaphson.{onward}
-use borrow.Author.Rules.{rules}
 use Rattle.newton_raphson.proofs.onward.Goals as goal
 
 pub returns-then-is_finite : goal.returns-then-is_finite

@@ -1,5 +1,4 @@
 use native.Mathlib.Omega.{arith}
-use borrow.Author.Rules.{rules}
 use Rattle.newton_raphson.proofs.passes_left.Goals as goal
 
 pub returns-then-limit-lt2 : goal.returns-then-limit-lt2

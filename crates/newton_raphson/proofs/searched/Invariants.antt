@@ -1,10 +1,8 @@
 use Rattle.searching.specs.Loops.{run_of}
-use Rattle.searching.proofs.LoopLaws.{Loops, loops_first, loops_next, loops_room, loops_ended, loops_out}
+use Rattle.searching.proofs.LoopLaws.{Loops}
 use Rattle.newton_raphson.proofs.NewtonRaphsonLaws.{turns}
 use Rattle.newton_raphson.specs.NewtonRaphson.{turn_from}
 use Prim.Native.Nat.{◌-◌}
-use native.Mathlib.Omega.{arith}
-use borrow.Author.Rules.{rules}
 use Rattle.newton_raphson.proofs.searched.Given as goal
 
 abbrev pub invariant-loop-n : goal.invariant-loop-n

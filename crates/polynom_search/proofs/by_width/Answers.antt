@@ -1,7 +1,6 @@
 use Rattle.searching.proofs.StepLaws.{by_done}
 use Rattle.polynom_search.specs.PolynomSearch.{width_at}
 use Rattle.polynom_search.proofs.TurnLaws.{by_middle, by_no_middle}
-use borrow.Author.Rules.{rules}
 use Rattle.polynom_search.proofs.by_width.Goals as goal
 
 pub returns-in_default : goal.returns-in_default

@@ -1,6 +1,5 @@
 use Rattle.searching.proofs.StepLaws.{steps}
 use Rattle.polynom_search.specs.PolynomSearch.{closer}
-use borrow.Author.Rules.{rules}
 use Rattle.polynom_search.proofs.closer.Goals as goal
 
 pub returns-then-abs : goal.returns-then-abs

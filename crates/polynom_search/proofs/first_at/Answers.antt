@@ -1,6 +1,5 @@
 use Rattle.searching.proofs.StepLaws.{steps}
 use Rattle.polynom_search.specs.PolynomSearch.{first_at}
-use borrow.Author.Rules.{rules}
 use Rattle.polynom_search.proofs.first_at.Goals as goal
 
 pub returns-in_default : goal.returns-in_default

@@ -1,5 +1,4 @@
 use Rattle.polynom_search.proofs.TurnLaws.{finite_middle, not_finite_middle}
-use borrow.Author.Rules.{rules}
 use Rattle.polynom_search.proofs.middle_in.Goals as goal
 
 pub returns-then-is_finite : goal.returns-then-is_finite

@@ -1,6 +1,5 @@
 use Rattle.searching.proofs.StepLaws.{by_rising}
 use Rattle.polynom_search.specs.PolynomSearch.{opening}
-use borrow.Author.Rules.{rules}
 use Rattle.polynom_search.proofs.opening.Goals as goal
 
 pub returns : goal.returns

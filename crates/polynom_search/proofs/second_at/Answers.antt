@@ -1,6 +1,5 @@
 use Rattle.searching.proofs.StepLaws.{steps}
 use Rattle.polynom_search.specs.PolynomSearch.{second_at}
-use borrow.Author.Rules.{rules}
 use Rattle.polynom_search.proofs.second_at.Goals as goal
 
 pub returns-then-decided : goal.returns-then-decided

@@ -1,6 +1,5 @@
 use Rattle.searching.proofs.StepLaws.{steps}
 use Rattle.polynom_search.specs.PolynomSearch.{turn_from}
-use borrow.Author.Rules.{rules}
 use Rattle.polynom_search.proofs.take_turn.Goals as goal
 
 pub returns-then-found : goal.returns-then-found

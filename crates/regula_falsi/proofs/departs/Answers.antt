@@ -2,7 +2,6 @@ use lib.Ieee.{binary64, mul}
 use Rattle.doubles.specs.Doubles.{above, same_sign}
 use Rattle.regula_falsi.specs.RegulaFalsi.{departs}
 use Rattle.regula_falsi.proofs.RegulaFalsiLaws.{elsewhere_tests}
-use borrow.Author.Rules.{rules}
 use Rattle.regula_falsi.proofs.departs.Goals as goal
 
 pub returns : goal.returns

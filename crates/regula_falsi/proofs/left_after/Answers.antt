@@ -1,4 +1,3 @@
-use borrow.Author.Rules.{rules}
 use Rattle.regula_falsi.proofs.left_after.Goals as goal
 
 pub returns-in-EdgeX2 : goal.returns-in-EdgeX2

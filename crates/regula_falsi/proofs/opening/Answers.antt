@@ -1,6 +1,5 @@
 use Rattle.searching.proofs.StepLaws.{by_rising}
 use Rattle.regula_falsi.specs.RegulaFalsi.{opening}
-use borrow.Author.Rules.{rules}
 use Rattle.regula_falsi.proofs.opening.Goals as goal
 
 pub returns : goal.returns

@@ -1,6 +1,5 @@
 use Rattle.numerical.proofs.Choices.{choices}
 use Rattle.regula_falsi.specs.RegulaFalsi.{replaced_of}
-use borrow.Author.Rules.{rules}
 use Rattle.regula_falsi.proofs.replaced.Goals as goal
 
 pub returns-then-same_sign : goal.returns-then-same_sign

@@ -1,4 +1,3 @@
-use borrow.Author.Rules.{rules}
 use Rattle.regula_falsi.proofs.right_after.Goals as goal
 
 pub returns-in-EdgeX1 : goal.returns-in-EdgeX1

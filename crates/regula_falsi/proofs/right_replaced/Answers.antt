@@ -1,5 +1,4 @@
 use mathlib.Core.Path.{refl}
-use borrow.Author.Rules.{rules}
 use Rattle.regula_falsi.proofs.right_replaced.Goals as goal
 
 pub returns : goal.returns

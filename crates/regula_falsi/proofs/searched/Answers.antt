@@ -1,10 +1,5 @@
-use Rattle.searching.specs.Loops.{run_of}
-use Rattle.searching.proofs.LoopLaws.{Loops, loops_first, loops_next, loops_room, loops_ended, loops_out}
-use Rattle.regula_falsi.proofs.RegulaFalsiLaws.{turns}
-use Rattle.regula_falsi.specs.RegulaFalsi.{turn_from}
-use Prim.Native.Nat.{◌-◌}
+use Rattle.searching.proofs.LoopLaws.{loops_first, loops_next, loops_room, loops_ended, loops_out}
 use native.Mathlib.Omega.{arith}
-use borrow.Author.Rules.{rules}
 use Rattle.regula_falsi.proofs.searched.Goals as goal
 
 pub loop-n-init : goal.loop-n-init

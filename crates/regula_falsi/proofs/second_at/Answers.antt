@@ -1,6 +1,5 @@
 use Rattle.searching.proofs.StepLaws.{steps}
 use Rattle.regula_falsi.specs.RegulaFalsi.{second_at}
-use borrow.Author.Rules.{rules}
 use Rattle.regula_falsi.proofs.second_at.Goals as goal
 
 pub returns-then-found : goal.returns-then-found

@@ -1,6 +1,5 @@
 use Rattle.searching.proofs.StepLaws.{steps}
 use Rattle.regula_falsi.specs.RegulaFalsi.{turn_from}
-use borrow.Author.Rules.{rules}
 use Rattle.regula_falsi.proofs.take_turn.Goals as goal
 
 pub returns-then-is_finite : goal.returns-then-is_finite

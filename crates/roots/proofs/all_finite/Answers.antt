@@ -1,9 +1,6 @@
-use mathlib.Core.Path.{◌≡◌, refl}
-use Prim.Native.Nat.{◌≤◌, ◌-◌}
+use mathlib.Core.Path.{refl}
 use native.Mathlib.Omega.{arith}
 use borrow.Author.Rules.{rules}
-use lib.ListN.{length, drop}
-use Rattle.roots.specs.Calls.{all_finite}
 use Rattle.roots.proofs.CallLaws.{finite_on, finite_off, finite_end}
 use Rattle.roots.proofs.all_finite.Goals as goal
 

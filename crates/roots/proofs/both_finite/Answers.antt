@@ -1,7 +1,6 @@
 use Rattle.numerical.proofs.Choices.{choices}
 use Rattle.roots.specs.Calls.{all_finite}
 use Rattle.roots.proofs.CallLaws.{one_finite}
-use borrow.Author.Rules.{rules}
 use Rattle.roots.proofs.both_finite.Goals as goal
 
 pub returns-then-is_finite : goal.returns-then-is_finite

@@ -1,5 +1,4 @@
 use Rattle.roots.proofs.CallLaws.{by_method}
-use borrow.Author.Rules.{rules}
 use Rattle.roots.proofs.found_by.Goals as goal
 
 pub returns-in-Brent : goal.returns-in-Brent

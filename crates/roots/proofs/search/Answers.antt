@@ -1,4 +1,3 @@
-use borrow.Author.Rules.{rules}
 use borrow.Author.Tests.{not-true, not-false}
 use Rattle.roots.proofs.CallLaws.{count_refused, coefficient_refused, start_refused, by_rule, by_refusal, limit_kept}
 use Rattle.roots.proofs.search.Goals as goal

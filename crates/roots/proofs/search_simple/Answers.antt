@@ -1,5 +1,4 @@
 use Prim.{tt}
-use borrow.Author.Rules.{rules}
 use Rattle.roots.proofs.search_simple.Goals as goal
 
 pub search-requires : goal.search-requires

@@ -1,5 +1,4 @@
 use Rattle.roots.proofs.CallLaws.{by_starts, one_finite}
-use borrow.Author.Rules.{rules}
 use Rattle.roots.proofs.starts_finite.Goals as goal
 
 pub returns-in-Brent : goal.returns-in-Brent

@@ -1,6 +1,5 @@
 use Rattle.searching.proofs.StepLaws.{steps}
 use Rattle.secant.specs.Secant.{arrived}
-use borrow.Author.Rules.{rules}
 use Rattle.secant.proofs.arrived.Goals as goal
 
 pub returns-then-found : goal.returns-then-found

@@ -1,5 +1,4 @@
 -- `secant::by_value` meets its contract. Assumes nothing.
-use borrow.Author.Rules.{rules}
 use Rattle.secant.proofs.by_value.Goals as goal
 
 pub returns : goal.returns

@@ -1,6 +1,5 @@
 use Rattle.searching.proofs.StepLaws.{steps, by_missed, by_no_value}
 use Rattle.secant.specs.Secant.{first_at}
-use borrow.Author.Rules.{rules}
 use Rattle.secant.proofs.first_at.Goals as goal
 
 pub returns-then-found : goal.returns-then-found

@@ -1,10 +1,8 @@
 use Rattle.searching.specs.Loops.{run_of}
-use Rattle.searching.proofs.LoopLaws.{Loops, loops_first, loops_next, loops_room, loops_ended, loops_out}
+use Rattle.searching.proofs.LoopLaws.{Loops}
 use Rattle.secant.proofs.SecantLaws.{turns}
 use Rattle.secant.specs.Secant.{turn_from}
 use Prim.Native.Nat.{◌-◌}
-use native.Mathlib.Omega.{arith}
-use borrow.Author.Rules.{rules}
 use Rattle.secant.proofs.searched.Given as goal
 
 abbrev pub invariant-loop-n : goal.invariant-loop-n

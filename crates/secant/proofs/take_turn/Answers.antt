@@ -1,6 +1,5 @@
 use Rattle.searching.proofs.StepLaws.{steps}
 use Rattle.secant.specs.Secant.{turn_from}
-use borrow.Author.Rules.{rules}
 use Rattle.secant.proofs.take_turn.Goals as goal
 
 pub returns-then-flat : goal.returns-then-flat

@@ -1,10 +1,5 @@
-use Rattle.searching.specs.Loops.{run_of}
-use Rattle.searching.proofs.LoopLaws.{Loops, loops_first, loops_next, loops_room, loops_ended, loops_out}
-use Rattle.walking.proofs.WalkingLaws.{turns}
-use Rattle.walking.specs.Walking.{turn_from}
-use Prim.Native.Nat.{◌-◌}
+use Rattle.searching.proofs.LoopLaws.{loops_first, loops_next, loops_room, loops_ended, loops_out}
 use native.Mathlib.Omega.{arith}
-use borrow.Author.Rules.{rules}
 use Rattle.walking.proofs.searched.Goals as goal
 
 pub loop-n-init : goal.loop-n-init

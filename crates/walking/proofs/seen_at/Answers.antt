@@ -1,6 +1,5 @@
 use Rattle.searching.proofs.StepLaws.{steps}
 use Rattle.walking.specs.Walking.{seen_at}
-use borrow.Author.Rules.{rules}
 use Rattle.walking.proofs.seen_at.Goals as goal
 
 pub returns-then-found : goal.returns-then-found
