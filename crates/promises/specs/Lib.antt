@@ -1,4 +1,4 @@
--- What is promised of every search, as theorems. A customer reads Cases, Demand1, Demand2, Demand3, Returned, RecordPromises and RecordCases, with the words in Counts, Searches and RecordLaws.
+-- What is promised of every search. A customer reads Cases, Demand1, Demand2, Demand3, Returned, RecordPromises and RecordCases, with the words in Counts, Searches and RecordLaws; the theorems stand in proofs/ under the same names.
 pub mod Cases
 pub mod Counts
 pub mod Searches
@@ -8,13 +8,4 @@ pub mod Demand3
 pub mod Returned
 pub mod RecordPromises
 pub mod RecordCases
--- lemmas that only proofs read
-pub mod EarlyLaws
-pub mod AnswerLaws
-pub mod BoundLaws
-pub mod EndLaws
-pub mod PairLaws
-pub mod RefusalLaws
 pub mod RecordLaws
-pub mod MarkLaws
-pub mod HistoryLaws

@@ -1,18 +1,14 @@
 -- Worked cases of records: 300 is AC 02, what is no number, and W1 to W13 as one list of bytes, which the second route wrote down too.
-use Rattle.std.specs.Prelude.{ℕ, ◌-◌, Bool, true, false, cond, List, [], ◌∷◌, ◌++◌, ◌≡◌, refl, eqb, length, get_or, take, drop, Float}
-use Rattle.std.specs.Float.{binary64}
+use Rattle.std.specs.Prelude.{ℕ, Bool, true, false, cond, List, [], ◌∷◌, ◌++◌, ◌≡◌, refl, length, take, drop, Float}
 use Rattle.std.specs.Float.Ieee.{of_bits, to_bits, lt}
 use Rattle.simple_convergency.specs.Stop.{tolerances_of, one_eps, bad_tolerance}
 use Rattle.numerical.specs.declared.Answer.TheVariants.{ByWidth}
 use Rattle.roots.specs.declared.Method.TheVariants.{Brent}
 use Rattle.roots.specs.Methods.{start_count, method_of}
 use Rattle.rows.specs.Groups.{groups, found, none, number_of}
-use Rattle.rows.specs.Layouts.{spell, read}
-use Rattle.records.specs.Records.{bits_of, head_row, tolerances_row, rule_row, call_row, answer_row, progress_row, row_of, between, is_double, is_tolerance, is_kind, is_tally, numbers_for, answer_of, started_at, padded, progress_of, doubles, headed, tolerances_for, record_layout, holds_both, recordable, newest, bytes_of, reading_of}
+use Rattle.rows.specs.Layouts.{spell}
+use Rattle.records.specs.Records.{bits_of, head_row, tolerances_row, rule_row, call_row, answer_row, progress_row, row_of, between, is_double, is_tolerance, is_kind, is_tally, numbers_for, answer_of, started_at, padded, progress_of, doubles, headed, tolerances_for, record_layout, holds_both, recordable, newest, bytes_of}
 use Rattle.records.specs.declared.Record.{Record}
-use Rattle.records.specs.declared.Reading.{Reading}
-use Rattle.records.specs.declared.Verdict.{Verdict}
-use Rattle.records.specs.declared.Verdict.TheVariants as verdict
 use Rattle.promises.specs.Cases as cases
 use Rattle.promises.specs.Cases.{Case, double}
 

@@ -28,7 +28,7 @@ use Rattle.simple_convergency.specs.declared.Tolerances.{Tolerances}
 use Rattle.roots.specs.Calls.{bad_count, all_finite, starts_of, found_by, found_under, answer}
 use Rattle.roots.specs.declared.Method.{Method}
 use Rattle.roots.specs.declared.Method.TheVariants.{Brent, RegulaFalsi, Secant, NewtonRaphson, Polynom}
-use Rattle.promises.specs.EarlyLaws.{at_once}
+use Rattle.promises.proofs.EarlyLaws.{at_once}
 use Rattle.promises.specs.Counts.{rule_of}
 use Rattle.promises.specs.Searches.{program_of, history_of, Truthful}
 

@@ -26,8 +26,8 @@ use Rattle.roots.proofs.CallLaws.{first_of, both_of}
 use Rattle.roots.specs.Calls.{all_finite, starts_of, answer}
 use Rattle.roots.specs.declared.Method.{Method}
 use Rattle.roots.specs.declared.Method.TheVariants.{Brent, RegulaFalsi, Secant, NewtonRaphson, Polynom}
-use Rattle.promises.specs.EarlyLaws.{at_once}
-use Rattle.promises.specs.AnswerLaws.{passed, at_answer}
+use Rattle.promises.proofs.EarlyLaws.{at_once}
+use Rattle.promises.proofs.AnswerLaws.{passed, at_answer}
 use Rattle.promises.specs.Counts.{rule_of}
 use Rattle.promises.specs.Searches.{program_of, history_of, Held, most_steps, Bracketed}
 

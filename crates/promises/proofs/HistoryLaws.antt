@@ -11,7 +11,7 @@ use Rattle.polynom.specs.Polynom.{value}
 use Rattle.searching.specs.Brackets.{pairs_in}
 use Rattle.searching.specs.Events.{evaluations_in, signs_missed, Rules, Each, Width, BeforePairs, Ordered, Traced}
 use Rattle.searching.proofs.EventLaws.{mark_known, values_are}
-use Rattle.searching.specs.Histories.{history, steps_in, mark_in}
+use Rattle.searching.specs.Histories.{steps_in, mark_in}
 use Rattle.searching.proofs.Keeps.{Ends}
 use Rattle.searching.specs.Histories.{counted}
 use Rattle.searching.specs.Programs.{flat, tested, noted, Event, oracle, answer_of}
@@ -25,10 +25,10 @@ use Rattle.simple_convergency.specs.declared.Tolerances.{Tolerances}
 use Rattle.roots.specs.Calls.{starts_of, answer}
 use Rattle.roots.specs.declared.Method.{Method}
 use Rattle.roots.specs.declared.Method.TheVariants.{Brent, RegulaFalsi, Secant, NewtonRaphson, Polynom}
-use Rattle.promises.specs.EarlyLaws.{at_once}
-use Rattle.promises.specs.AnswerLaws.{passed, at_answer, counts_of}
-use Rattle.promises.specs.EndLaws.{reason_of, six_told}
-use Rattle.promises.specs.MarkLaws.{plain_secant, plain_newton, two_marks}
+use Rattle.promises.proofs.EarlyLaws.{at_once}
+use Rattle.promises.proofs.AnswerLaws.{passed, at_answer, counts_of}
+use Rattle.promises.proofs.EndLaws.{reason_of, six_told}
+use Rattle.promises.proofs.MarkLaws.{plain_secant, plain_newton, two_marks}
 use Rattle.promises.specs.Counts.{rule_of}
 use Rattle.promises.specs.Searches.{program_of, history_of, Held, follows_of, gives_of, Flat, Marks, Bracketed}
 

@@ -11,9 +11,9 @@ use Rattle.simple_convergency.specs.Stop.{greatest_limit, either_bad}
 use Rattle.simple_convergency.specs.declared.Tolerances.{Tolerances}
 use Rattle.roots.specs.Calls.{bad_count, all_finite, starts_of, answer}
 use Rattle.roots.specs.declared.Method.{Method}
-use Rattle.promises.specs.EarlyLaws.{at_once}
-use Rattle.promises.specs.AnswerLaws.{by_number, answer_is}
-use Rattle.promises.specs.EndLaws.{late_number}
+use Rattle.promises.proofs.EarlyLaws.{at_once}
+use Rattle.promises.proofs.AnswerLaws.{by_number, answer_is}
+use Rattle.promises.proofs.EndLaws.{late_number}
 use Rattle.promises.specs.Searches.{Held}
 
 module _ (a : List Float) (m : Method) (tolerances : Tolerances) (limit : ℕ) where

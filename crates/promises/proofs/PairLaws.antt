@@ -13,9 +13,9 @@ use Rattle.simple_convergency.specs.declared.Tolerances.{Tolerances}
 use Rattle.roots.specs.Calls.{all_finite, starts_of, answer}
 use Rattle.roots.specs.declared.Method.{Method}
 use Rattle.roots.specs.declared.Method.TheVariants.{Brent, RegulaFalsi, Secant, NewtonRaphson, Polynom}
-use Rattle.promises.specs.EarlyLaws.{at_once}
-use Rattle.promises.specs.AnswerLaws.{passed}
-use Rattle.promises.specs.EndLaws.{two_doubles, bracket_of}
+use Rattle.promises.proofs.EarlyLaws.{at_once}
+use Rattle.promises.proofs.AnswerLaws.{passed}
+use Rattle.promises.proofs.EndLaws.{two_doubles, bracket_of}
 use Rattle.promises.specs.Searches.{history_of, Held, Bracketed, PairBetween, NestedByOrder}
 
 -- pairs that narrow are nested by the order number, and lie between the starts

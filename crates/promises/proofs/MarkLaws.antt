@@ -19,9 +19,9 @@ use Rattle.roots.proofs.CallLaws.{first_of, both_of}
 use Rattle.roots.specs.Calls.{all_finite, starts_of, answer}
 use Rattle.roots.specs.declared.Method.{Method}
 use Rattle.roots.specs.declared.Method.TheVariants.{RegulaFalsi, Secant, NewtonRaphson}
-use Rattle.promises.specs.EarlyLaws.{at_once}
-use Rattle.promises.specs.AnswerLaws.{by_number, answer_is, passed, at_answer}
-use Rattle.promises.specs.RefusalLaws.{at_most_five}
+use Rattle.promises.proofs.EarlyLaws.{at_once}
+use Rattle.promises.proofs.AnswerLaws.{by_number, answer_is, passed, at_answer}
+use Rattle.promises.proofs.RefusalLaws.{at_most_five}
 use Rattle.promises.specs.Counts.{rule_of}
 use Rattle.promises.specs.Searches.{program_of}
 
