@@ -1,7 +1,5 @@
 -- What the contracts of `replay` cite.
 pub mod VerdictTexts
 pub mod Courses
--- what proofs cite
-pub mod CourseLaws
 -- what is promised of a whole input
 pub mod Inputs

@@ -1,6 +1,6 @@
 -- A verdict as a line. Definitions only.
-use Rattle.std.specs.Prelude.{ℕ, Bool, true, false, cond, List, ◌++◌}
-use Rattle.line_text.specs.Texts.{bytes, decimal_field, hexField}
+use Rattle.std.specs.Prelude.{ℕ, Bool, true, false, cond, List, [], ◌∷◌, ◌++◌}
+use Rattle.line_text.specs.Texts.{bytes, decimal_field, hex_text}
 use Rattle.playback.specs.Playback.{field_number}
 use Rattle.playback.specs.declared.Field.{Field}
 use Rattle.playback.specs.declared.Field.TheVariants.{Kind, First, Second, Third, Steps, Values, Derivatives, Mark}
@@ -22,9 +22,13 @@ is_number Values = false
 is_number Derivatives = false
 is_number Mark = false
 
+-- 16 digits and a byte after them
+abbrev pub hex_field : ℕ → ℕ → List ℕ
+hex_field n after = hex_text n ++ (after ∷ [])
+
 -- a double by the 16 hexadecimal digits of its bits, another number in decimal digits
 unfoldable pub value_text : Field → ℕ → ℕ → List ℕ
-value_text field n after = cond (is_number field) (hexField n after) (decimal_field n after)
+value_text field n after = cond (is_number field) (hex_field n after) (decimal_field n after)
 
 -- RECORDS OFFSET
 unfoldable pub place_text : ℕ → ℕ → List ℕ

@@ -4,16 +4,16 @@
 
 #![tactic(auto)]
 
-ghost use Rattle.std.specs.Prelude.{◌+◌, ◌<◌, ◌≤◌, length, take, false, ◌≡◌};
+ghost use Rattle.std.specs.Prelude.{◌+◌, ◌<◌, ◌≤◌, length, take, false, ◌≡◌, IfSome};
 ghost use Rattle.line_text.specs.Texts.{Put};
 ghost use Rattle.records.specs.Records.{longest_record};
 ghost use Rattle.replay.specs.Courses.{Bounded, Follows, Goes, Room, Within, block_length, course_of, may_go_on, most_bytes_in_all};
-ghost use Rattle.replay.specs.VerdictTexts.{difference_text, is_number, longest_line, place_text, value_text, verdict_text};
+ghost use Rattle.replay.specs.VerdictTexts.{difference_text, hex_field, is_number, longest_line, place_text, value_text, verdict_text};
 
-use libc::{STDIN_FILENO, STDOUT_FILENO};
 use line_text::text;
 use playback::{Field, Playback};
 use records::Record;
+use std::io::{Read, Stdin, Stdout, Write};
 
 // How many records agree so far, and how many bytes they take.
 #[derive(Clone, Copy)]
@@ -55,6 +55,18 @@ fn is_number(field: Field) -> bool
     }
 }
 
+// A number of 64 bits in 16 hexadecimal digits, and a byte after it.
+fn put_hex(out: &mut [u8], at: usize, n: u64, after: u8) -> usize
+    requires { at + 17 ≤ length out.old }
+    ensures put { Put out.old at (hex_field n after) out.new result }
+    ensures value { result ≡ at + 17 }
+{
+    let mut digits = [0u8; 16];
+    let k = io::hex(n, 16, &mut digits);
+    let p = text::put(out, at, &digits[..k]);
+    text::put_byte(out, p, after)
+}
+
 // What a field holds, and a byte after it.
 fn put_value(out: &mut [u8], at: usize, field: Field, n: u64, after: u8) -> usize
     requires { at + 21 ≤ length out.old }
@@ -62,7 +74,7 @@ fn put_value(out: &mut [u8], at: usize, field: Field, n: u64, after: u8) -> usiz
     ensures upper_bound { result ≤ at + 21 }
 {
     if is_number(field) {
-        return text::put_hex(out, at, n, after);
+        return put_hex(out, at, n, after);
     }
     text::put_decimal(out, at, n, after)
 }
@@ -219,10 +231,10 @@ fn played(block: &[u8], is_last: bool, reached: Reached) -> Course
 }
 
 // Writes the verdict.
-fn tell(verdict: Playback) {
+fn tell(mut output: Stdout, verdict: Playback) {
     let mut line = [0u8; 113];
     let n = put_verdict(&mut line, verdict);
-    io::write_all(STDOUT_FILENO, &line[..n]);
+    output.write_all(&line[..n]).ok();
 }
 
 fn ended() -> Turn
@@ -239,7 +251,7 @@ fn ended() -> Turn
 }
 
 // Plays back the bytes up to an index, and moves what may be cut off there to the front.
-fn next_turn(block: &mut [u8], end: usize, is_last: bool, reached: Reached) -> Turn
+fn next_turn(output: Stdout, block: &mut [u8], end: usize, is_last: bool, reached: Reached) -> Turn
     requires { (end ≤ length block.old) × Room end reached }
     ensures follows { Follows (take end block.old) is_last reached block.new result }
     ensures bounded { Bounded (reached.offset + end) (reached.records + end) result }
@@ -247,7 +259,7 @@ fn next_turn(block: &mut [u8], end: usize, is_last: bool, reached: Reached) -> T
     let course = played(&block[..end], is_last, reached);
     match course {
         Course::Ended(verdict) => {
-            tell(verdict);
+            tell(output, verdict);
             ended()
         }
         Course::Open { at, reached: next } => Turn {
@@ -258,26 +270,33 @@ fn next_turn(block: &mut [u8], end: usize, is_last: bool, reached: Reached) -> T
     }
 }
 
+// Reads as many bytes as have come and find room, and tells how many they are: 0 at the input's end, and none where the read failed.
+fn read_some(mut input: Stdin, room: &mut [u8]) -> Option<usize>
+    ensures { IfSome result (λ n. n ≤ length room.new) }
+{
+    input.read(room).ok()
+}
+
 // Reads what comes behind the bytes that are left, and plays it back.
-fn read_block(block: &mut [u8], kept: usize, reached: Reached) -> Turn
+fn read_block(input: Stdin, output: Stdout, block: &mut [u8], kept: usize, reached: Reached) -> Turn
     requires kept_le_longest_record { (kept ≤ longest_record) × (block_length ≡ length block.old) }
     requires offset_le_most_bytes { (reached.offset ≤ most_bytes_in_all) × (reached.records ≤ most_bytes_in_all) }
     ensures { Bounded (reached.offset + kept + block_length) (reached.records + block_length) result }
 {
-    let got = libc::read(STDIN_FILENO, &mut block[kept..]);
-    if got < 0 {
+    let Some(n) = read_some(input, &mut block[kept..]) else {
         return ended();
+    };
+    if n == 0 {
+        return next_turn(output, block, kept, true, reached);
     }
-    if got == 0 {
-        return next_turn(block, kept, true, reached);
-    }
-    let n = io::count(got, &block[kept..]);
-    next_turn(block, kept + n, false, reached)
+    next_turn(output, block, kept + n, false, reached)
 }
 
 // A proved loop has to end, and nothing says that the input does: so the turns are counted down, from a number that no
 // run uses up, 2^46. With blocks of 2^16 bytes every sum stays below 2^64.
-fn main() {
+fn main(rt: HostRuntime) {
+    let input = rt.stdin();
+    let output = rt.stdout();
     let mut block = io::large_buffer();
     let mut turn = Turn {
         kept: 0,
@@ -290,7 +309,7 @@ fn main() {
     let mut turns = 70368744177664u64;
     while turns > 0 && turn.is_open {
         let reached = turn.reached;
-        turn = read_block(&mut block, turn.kept, reached);
+        turn = read_block(input, output, &mut block, turn.kept, reached);
         turns -= 1;
     }
 }

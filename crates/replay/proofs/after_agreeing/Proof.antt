@@ -1,4 +1,4 @@
-use Rattle.replay.specs.CourseLaws.{agree_last, agree_on}
+use Rattle.replay.proofs.CourseLaws.{agree_last, agree_on}
 use borrow.Author.Rules.{rules}
 use Rattle.replay.proofs.after_agreeing.Statement.{statement}
 use Rattle.replay.proofs.after_agreeing.Tie as tie

@@ -1,4 +1,4 @@
-use Rattle.replay.specs.CourseLaws.{refused_cut, refused_there}
+use Rattle.replay.proofs.CourseLaws.{refused_cut, refused_there}
 use borrow.Author.Rules.{rules}
 use Rattle.replay.proofs.after_refusal.Statement.{statement}
 use Rattle.replay.proofs.after_refusal.Tie as tie

@@ -1,4 +1,4 @@
-use Rattle.replay.specs.CourseLaws.{agree_within, differs_fits, differs_offset, refused_few, refused_at, differs_there, by_verdict}
+use Rattle.replay.proofs.CourseLaws.{agree_within, differs_fits, differs_offset, refused_few, refused_at, differs_there, by_verdict}
 use borrow.Author.Rules.{rules}
 use Rattle.replay.proofs.course_of.Statement.{statement}
 use Rattle.replay.proofs.course_of.Tie as tie

@@ -1,6 +1,6 @@
 use native.Mathlib.Omega.{arith}
 use Rattle.line_text.specs.ReplyLaws.{count_of_part}
-use Rattle.replay.specs.CourseLaws.{room_part, bounded_more, bounded_on, follows_on, follows_none}
+use Rattle.replay.proofs.CourseLaws.{room_part, bounded_more, bounded_on, follows_on, follows_none}
 use borrow.Author.Rules.{rules}
 use Rattle.replay.proofs.next_turn.Statement.{statement}
 use Rattle.replay.proofs.next_turn.Tie as tie

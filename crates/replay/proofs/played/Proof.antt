@@ -1,4 +1,4 @@
-use Rattle.replay.specs.CourseLaws.{played_within, course_goes}
+use Rattle.replay.proofs.CourseLaws.{played_within, course_goes}
 use borrow.Author.Rules.{rules}
 use Rattle.replay.proofs.played.Statement.{statement}
 use Rattle.replay.proofs.played.Tie as tie

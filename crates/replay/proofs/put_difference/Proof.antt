@@ -1,4 +1,4 @@
-use Rattle.replay.specs.CourseLaws.{difference_put}
+use Rattle.replay.proofs.CourseLaws.{difference_put}
 use borrow.Author.Rules.{rules}
 use Rattle.replay.proofs.put_difference.Statement.{statement}
 use Rattle.replay.proofs.put_difference.Tie as tie

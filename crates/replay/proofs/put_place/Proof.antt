@@ -1,4 +1,4 @@
-use Rattle.replay.specs.CourseLaws.{place_put}
+use Rattle.replay.proofs.CourseLaws.{place_put}
 use borrow.Author.Rules.{rules}
 use Rattle.replay.proofs.put_place.Statement.{statement}
 use Rattle.replay.proofs.put_place.Tie as tie

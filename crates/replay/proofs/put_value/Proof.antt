@@ -1,4 +1,4 @@
-use Rattle.replay.specs.CourseLaws.{value_hex, value_decimal}
+use Rattle.replay.proofs.CourseLaws.{value_hex, value_decimal}
 use borrow.Author.Rules.{rules}
 use Rattle.replay.proofs.put_value.Statement.{statement}
 use Rattle.replay.proofs.put_value.Tie as tie

@@ -1,4 +1,4 @@
-use Rattle.replay.specs.CourseLaws.{agree_put, differs_put, refused_put}
+use Rattle.replay.proofs.CourseLaws.{agree_put, differs_put, refused_put}
 use borrow.Author.Rules.{rules}
 use Rattle.replay.proofs.put_verdict.Statement.{statement}
 use Rattle.replay.proofs.put_verdict.Tie as tie

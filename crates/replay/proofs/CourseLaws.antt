@@ -10,10 +10,10 @@ use Rattle.playback.proofs.AheadLaws.{shifted, played_shifted, Ahead, ahead}
 use Rattle.playback.specs.declared.Field.{Field}
 use Rattle.playback.specs.declared.Playback.{Playback}
 use Rattle.playback.specs.declared.Playback.TheVariants.{Agree, Differs, Refused}
-use Rattle.line_text.specs.Texts.{Put, bytes, decimal_field, hexField}
+use Rattle.line_text.specs.Texts.{Put, bytes, decimal_field}
 use Rattle.line_text.specs.TextLaws.{put_both}
 use Rattle.replay.specs.Courses.{Within, Room, reached_at, may_go_on, course_of, Goes, Follows, Bounded, block_length, most_bytes_in_all}
-use Rattle.replay.specs.VerdictTexts.{is_number, value_text, place_text, difference_text, verdict_text}
+use Rattle.replay.specs.VerdictTexts.{hex_field, is_number, value_text, place_text, difference_text, verdict_text}
 use Rattle.replay.specs.declared.Course.{Course}
 use Rattle.replay.specs.declared.Course.TheVariants.{Ended, Open}
 use Rattle.replay.specs.declared.Reached.{Reached}
@@ -127,7 +127,7 @@ by_verdict v long is_last reached e k = rw e k
 -- ---- the line
 
 module _ (a : List ℕ) (at : ℕ) (field : Field) where
-  pub value_hex : {b : Bool} (n after : ℕ) {t : List ℕ} {r : ℕ} → b ≡ is_number field → b ≡ true → Put a at (hexField n after) t r → Put a at (value_text field n after) t r
+  pub value_hex : {b : Bool} (n after : ℕ) {t : List ℕ} {r : ℕ} → b ≡ is_number field → b ≡ true → Put a at (hex_field n after) t r → Put a at (value_text field n after) t r
   unfolding value_text
   value_hex n after e f p = rw (← e, f) p
 

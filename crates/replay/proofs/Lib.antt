@@ -1,0 +1,3 @@
+-- The laws about what specs/ defines, and the lemmas of the proofs.
+pub mod CourseLaws
+pub mod HexLaws
