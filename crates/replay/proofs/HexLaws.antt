@@ -1,5 +1,5 @@
 -- A number as 16 hexadecimal digits.
-use Rattle.std.specs.Prelude.{ℕ, ◌+◌, ◌-◌, ◌^◌, ◌≤◌, ◌<◌, List, [], ◌∷◌, ◌≡◌, length, take}
+use Rattle.std.specs.Prelude.{ℕ, ◌+◌, ◌-◌, ◌^◌, ◌<◌, List, [], ◌∷◌, ◌≡◌, length, take}
 use Rattle.std.proofs.Common.{arith, ◌∙◌, inl, inr, eq-zero-or-pos}
 use Rattle.std.proofs.Math.Path.{ap}
 use Rattle.std.proofs.Math.Nat.{pow-le-pow_right}
