@@ -1,7 +1,7 @@
 /*
  * Root searches on x^n + a[0] x^(n-1) + ... + a[n-1], for C and C++.
  *
- * What a call gives back is proved to equal the definitions flatKind, flatNumbers and flatTallies of
+ * What a call gives back is proved to equal the definitions flat_kind, flat_numbers and flat_tallies of
  * crates/roots_c/specs/Flat.antt for every input. The compiler's back end is not proved.
  */
 #ifndef ROOTS_H
