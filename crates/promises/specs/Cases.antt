@@ -245,5 +245,3 @@ rust_cases =
 unfoldable pub all_met_again : List Case → Bool
 all_met_again [] = true
 all_met_again (c ∷ rest) = cond (agrees c (rust_found_by (doubles c.coefficients) (rule_of (tolerances_of (double c.value_tolerance) (double c.point_tolerance)) c.limit) c.method)) (all_met_again rest) false
-
--- ---- every call of a list gets exactly the answer that stands there

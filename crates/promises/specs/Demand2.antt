@@ -16,5 +16,3 @@ pub record Demand2 (a : List Float) (m : Method) (tolerances : Tolerances) (limi
   -- the Rust's values are these and, with Brent, one more for each step
   pub rust_values :
       (rust_found_by a (rule_of tolerances limit) m).progress.tally.values.0 ≡ outcome.progress.tally.values.0 + worked_out_again m outcome.progress.tally.steps.0
-
--- ---- it holds of the definition

@@ -90,5 +90,3 @@ pub record Demand3Pairs (a : List Float) (m : Method) (tolerances : Tolerances) 
   pub root_between_by_value : (root y : Float) → outcome.answer ≡ ByValue root y → BetweenZ (order_of u) (order_of v) (order_of root)
   -- any root returned by width lies between them too, and so does Brent's c, which may lie outside of the last pair
   pub root_between_by_width : (root p q : Float) → outcome.answer ≡ ByWidth root p q → BetweenZ (order_of u) (order_of v) (order_of root)
-
--- ---- they hold of the definition

@@ -44,7 +44,7 @@ too_large = refl
 
 -- ---- W1 to W13
 
--- its call with that answer: `cases-hold` of Cases says that it is the search's
+-- its call with that answer: `cases_hold` of Cases says that it is the search's
 abbrev pub record_given : ℕ → Case → Record
 record_given kind c =
     record {

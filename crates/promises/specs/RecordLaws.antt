@@ -25,7 +25,3 @@ pub record Recordable (o : Record) : Type 0 where
   pub its_kind : AnswerKind (kind_of o.outcome.answer)
   -- not "a mark above 2"
   pub its_mark : o.outcome.progress.mark ≤ 2
-
--- ---- tests of size
-
--- ---- the tests and the words

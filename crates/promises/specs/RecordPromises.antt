@@ -49,13 +49,3 @@ pub record Reads (s : List ℕ) (r : Reading) : Type 0 where
   -- it is written back as the same bytes
   pub writes_back : (n : ℕ) → r.verdict ≡ verdict.Bytes n → (before : List ℕ) → n ≤ length before → (written_to r.content (length before) ≡ verdict.Bytes n) × (left_by r.content before (verdict.Bytes n) ≡ take n s ++ drop n before)
   pub no_longer : (n : ℕ) → r.verdict ≡ verdict.Bytes n → n ≤ longest_record
-
--- ---- they hold of the definitions
-
--- ---- reading
-
--- ---- whatever the contract of `write` allows
-
--- ---- whatever the contract of `read` allows
-
--- ---- C's two calls

@@ -22,10 +22,6 @@ pub record Promised (a : List Float) (m : Method) (tolerances : Tolerances) (lim
   pub demand3 : Passes a m tolerances limit → Demand3 a m tolerances limit outcome
   pub demand3_pairs : Passes a m tolerances limit → (u v : Float) → Bracketed m u v → Demand3Pairs a m tolerances limit u v outcome
 
--- ---- search
-
--- ---- one eps: what `search_simple` and `search_plain` may return is what `search` may return with both tolerances equal to it
-
 -- ---- roots_search, as C calls it
 
 -- the methods' numbers; Newton starts from the first start

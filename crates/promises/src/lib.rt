@@ -1,3 +1,3 @@
-// The theorems that a customer reads stand in specs/. There is no code here.
+// What a customer is promised stands in specs/, and its theorems in proofs/. There is no code here.
 
 #![tactic(auto)]
