@@ -5,14 +5,15 @@ use Rattle.std.specs.Float.{binary64}
 use Rattle.std.specs.Float.Ieee.{fits}
 use Rattle.doubles.proofs.Compare.{of_true, finite_num}
 use Rattle.doubles.specs.Doubles.{above, below}
-use Rattle.doubles.proofs.Number.{Double}
-use Rattle.doubles.proofs.Pairs.{In}
+use Rattle.doubles.specs.Number.{Double}
+use Rattle.doubles.specs.Pairs.{In}
 use Rattle.doubles.proofs.Signs.{not_found}
 use Rattle.simple_convergency.specs.Stop.{found_at, turns_of}
 use Rattle.simple_convergency.specs.declared.StopRule.{StopRule}
 use Rattle.searching.specs.Programs.{oracle, Event, Prog, Turned}
 use Rattle.searching.specs.Histories.{steps_in}
-use Rattle.searching.proofs.Keeps.{Ends, After, ends_done, ends_stops, ends_pulled, ends_offered, ends_searches}
+use Rattle.searching.specs.Keeps.{Ends, After}
+use Rattle.searching.proofs.Keeps.{ends_done, ends_stops, ends_pulled, ends_offered, ends_searches}
 use Rattle.searching.specs.Reasons.{some_ends, by_width}
 use Rattle.searching.specs.Brackets.{pairs_in, points_of, Bracket, Bracketing}
 use Rattle.searching.proofs.BracketLaws.{double_finite, answered_fit, ends_fit, bracket_backed, bracket_narrows, bracket_on, bracket_pulled, bracket_going, bracket_found, bracket_value, bracket_no_candidate, bracket_limit}

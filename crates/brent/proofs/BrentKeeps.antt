@@ -7,8 +7,8 @@ use Rattle.std.specs.Float.{binary64}
 use Rattle.std.specs.Float.Ieee.{fits, lt}
 use Rattle.std.specs.Float.Ieee.Fits.{cond-fits, add-fits, sub-fits, div-fits}
 use Rattle.doubles.specs.Doubles.{absolute, above, below, same_sign}
-use Rattle.doubles.proofs.Number.{Double}
-use Rattle.doubles.proofs.Pairs.{Inside}
+use Rattle.doubles.specs.Number.{Double}
+use Rattle.doubles.specs.Pairs.{Inside}
 use Rattle.doubles.proofs.Products.{product_below}
 use Rattle.doubles.proofs.Signs.{same_symmetric, opposite_not_same, other_kept}
 use Rattle.numerical.specs.declared.Interval.{Interval}
@@ -17,9 +17,10 @@ use Rattle.simple_convergency.specs.Stop.{turns_of}
 use Rattle.simple_convergency.specs.declared.StopRule.{StopRule}
 use Rattle.searching.specs.Programs.{ruled, oracle, Event, noted, Prog, Turned}
 use Rattle.searching.specs.Histories.{steps_in}
-use Rattle.searching.proofs.Keeps.{Ends, After, ends_log, ends_narrows}
+use Rattle.searching.specs.Keeps.{Ends, After}
+use Rattle.searching.proofs.Keeps.{ends_log, ends_narrows}
 use Rattle.searching.specs.Reasons.{some_ends, True}
-use Rattle.searching.proofs.ReasonLaws.{Answered}
+use Rattle.searching.specs.ReasonLaws.{Answered}
 use Rattle.searching.specs.Brackets.{pairs_in, Fit, AtStarts, Bracket, Unpaired, Bracketing}
 use Rattle.searching.proofs.BracketLaws.{ends_fit, unpaired_none, unpaired_value, bracketed_ends, bracket_backed, bracket_in, bracket_on, bracket_next}
 use Rattle.brent.specs.Brent.{arrange, pair_of, start_of, opened, second_at, first_at, opening, inverse_quadratic, chord, three_values, guess_of, used_of, next_of, completes, keeps_a, pair_after, step_departs, arrived}

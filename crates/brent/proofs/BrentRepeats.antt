@@ -21,8 +21,9 @@ use Rattle.searching.proofs.Keeps.{ends_tallied}
 use Rattle.searching.proofs.ProgramLaws.{play_bind}
 use Rattle.searching.specs.Programs.{Test, holds, ruled, Prog, done, log, Turned, ended, next, bind, test, stops, sampled, value_at, offered, pulled_into, product_departs, bracketed, narrows_to, run, searches, oracle, Event, play, tallied, answer_of}
 use Rattle.brent.specs.Brent.{arrange, opened, second_at, first_at, opening, next_of, completes, pair_after, step_departs, arrived, landed, pulled_in, step_with, step_from, turn_from, brent_program, brent}
-use Rattle.brent.proofs.BrentRust.{rust_arrived, rust_step, rust_turn, rust_program, rust_brent, repeated}
-use Rattle.brent.proofs.BrentSamples.{Evaluations, Known, knows_opening, knows_turn}
+use Rattle.brent.specs.BrentRust.{rust_arrived, rust_step, rust_turn, rust_program, rust_brent, repeated}
+use Rattle.brent.specs.BrentSamples.{Evaluations, Known}
+use Rattle.brent.proofs.BrentSamples.{knows_opening, knows_turn}
 use Rattle.brent.specs.declared.Brent.{Brent}
 
 -- a value counted before or after: the steps are the same

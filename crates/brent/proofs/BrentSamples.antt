@@ -1,27 +1,19 @@
 -- At every state of a run of Brent's method the samples of the pair are what the evaluator gives at their points.
 use Rattle.std.specs.Prelude.{Bool, List, [], ◌∷◌, ◌≡◌, Float}
 use Rattle.std.proofs.Common.{ap, ◌∙◌}
-use Rattle.numerical.specs.declared.Answer.{Answer}
 use Rattle.numerical.specs.declared.Sample.{Sample}
 use Rattle.polynom.specs.Polynom.{evaluated}
 use Rattle.polynom.specs.declared.Evaluated.TheVariants.{At}
 use Rattle.simple_convergency.specs.declared.StopRule.{StopRule}
 use Rattle.searching.specs.Programs.{ruled, Prog, Turned, oracle, Event, noted}
-use Rattle.searching.proofs.Keeps.{Ends, After, ends_done, ends_log, ends_stops, ends_pulled, ends_value, ends_offered, ends_bracketed, ends_narrows}
+use Rattle.searching.specs.Keeps.{Ends}
+use Rattle.searching.proofs.Keeps.{ends_done, ends_log, ends_stops, ends_pulled, ends_value, ends_offered, ends_bracketed, ends_narrows}
 use Rattle.searching.proofs.ReasonLaws.{answered_at}
 use Rattle.brent.specs.Brent.{arrange, pair_of, start_of, opened, second_at, first_at, opening, next_of, completes, step_departs, arrived, landed, pulled_in, step_with, step_from, turn_from}
 use Rattle.brent.proofs.BrentKeeps.{either_way, either_kept}
 use Rattle.brent.specs.declared.Arranged.{Arranged}
 use Rattle.brent.specs.declared.Brent.{Brent}
-
--- the samples of the pair came from evaluations
-pub record Evaluations (cs : List Float) (s : Brent) : Type 0 where
-  pub of_a : evaluated cs s.a.x ≡ At s.a
-  pub of_b : evaluated cs s.b.x ≡ At s.b
-
--- a search stands at such a state, or has ended
-abbrev pub Known : List Float → Turned Brent → List Event → Type 0
-Known cs = After (λ (s : Brent) (i : List Event). Evaluations cs s) (λ (a : Answer) (i : List Event). Unit {0})
+use Rattle.brent.specs.BrentSamples.{Evaluations, Known}
 
 module _ (cs : List Float) where
   abbrev Knows : Prog (Turned Brent) → List Event → Type 0

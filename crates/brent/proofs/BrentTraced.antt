@@ -8,9 +8,10 @@ use Rattle.searching.specs.Programs.{found, converged, oracle, Event}
 use Rattle.searching.specs.Brackets.{pairs_in}
 use Rattle.searching.specs.Events.{candidates_in, evaluated_since, Tried, PointsOf, PulledNow, Traced}
 use Rattle.searching.proofs.EventLaws.{tracing_newest, tracing_value, tracing_stops, tracing_candidate, traced_end}
-use Rattle.searching.proofs.Keeps.{Ends, ends_done, ends_searches}
+use Rattle.searching.specs.Keeps.{Ends}
+use Rattle.searching.proofs.Keeps.{ends_done, ends_searches}
 use Rattle.brent.specs.Brent.{pair_of, landed, pulled_in, step_with, step_from, turn_from, brent_program}
-use Rattle.brent.proofs.BrentEvents.{Follows, Gives}
+use Rattle.brent.specs.BrentEvents.{Follows, Gives}
 use Rattle.brent.specs.declared.Brent.{Brent}
 use Rattle.brent.proofs.BrentTraces.{Stands, Inv, Reaches, traces_opening, traces_arrived}
 

@@ -10,9 +10,9 @@ use Rattle.searching.specs.Programs.{ruled, oracle, Event, asked, noted, Prog, T
 use Rattle.searching.specs.Brackets.{pairs_in}
 use Rattle.searching.specs.Events.{evaluations_in, evaluated_since, Tried, Answered, OfStarts, Traced, Opening, Tracing}
 use Rattle.searching.proofs.EventLaws.{opening_none, opening_value, tracing_newest, tracing_ruled, tracing_narrows, traced_bracketed}
-use Rattle.searching.proofs.Keeps.{Ends, After}
+use Rattle.searching.specs.Keeps.{Ends, After}
 use Rattle.brent.specs.Brent.{arrange, pair_of, start_of, opened, second_at, first_at, opening, next_of, completes, step_departs, arrived}
-use Rattle.brent.proofs.BrentEvents.{Stepped, Follows, IsC, Gives}
+use Rattle.brent.specs.BrentEvents.{Stepped, Follows, IsC, Gives}
 use Rattle.brent.proofs.BrentKeeps.{either_way, either_kept}
 use Rattle.brent.specs.declared.Arranged.{Arranged}
 use Rattle.brent.specs.declared.Brent.{Brent}

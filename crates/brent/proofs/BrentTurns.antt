@@ -14,7 +14,8 @@ use Rattle.searching.specs.Programs.{oracle, play, tallied}
 use Rattle.searching.specs.Bounds.{More, Within}
 use Rattle.searching.proofs.BoundLaws.{within_less, within_searches, answer_within}
 use Rattle.searching.specs.Loops.{Turns, run_of}
-use Rattle.searching.proofs.LoopLaws.{opened_ended, opened_next, Shown, shown_end, shown_go, seen_once}
+use Rattle.searching.specs.Loops.{Shown, shown_end, shown_go}
+use Rattle.searching.proofs.LoopLaws.{opened_ended, opened_next, seen_once}
 use Rattle.brent.specs.Brent.{opening, turn_from, brent_program, brent, seen}
 use Rattle.brent.specs.declared.Brent.{Brent}
 use Rattle.brent.specs.declared.To.{To}

@@ -1,2 +1,5 @@
--- What the contracts of `brent` cite, and what the laws of searches give for it.
+-- What the contracts of `brent` cite, the method with the Rust's evaluations, what is promised of its history, and the words of its laws.
 pub mod Brent
+pub mod BrentRust
+pub mod BrentEvents
+pub mod BrentSamples

@@ -17,6 +17,7 @@ use Rattle.std.proofs.lemmas.Bool.{not-true, eqb-false, lt-leb}
 use Rattle.doubles.specs.Doubles.{nought, exponent_width, exponent_all_ones, signed63, order_of, pattern_of, of_order}
 use Rattle.doubles.specs.Compare.{Like}
 use Rattle.doubles.proofs.Compare.{same_test, of_true, eqb_iff, below_like, below_scaled, finite_num, lt_not_le, eq_both}
+use Rattle.doubles.specs.Number.{Double, bound, many, largest}
 
 -- ---- finite, by the exponent's bits
 
@@ -49,15 +50,6 @@ finite_exponent x f = ap finite (sym (of_bits-to_bits binary64 x f)) ∙ of_patt
     exponent : eqb (bits % 2 ^ 63 / 2 ^ 52) 2047 ≡ exponent_all_ones bits
     exponent = eqb_iff (bits % 2 ^ 63 / 2 ^ 52) 2047 (bits / 2 ^ 52 % 2 ^ exponent_width) (2 ^ exponent_width - 1) (λ h. omega arith, λ h. omega arith)
 
--- a double that is finite
-pub record Double (x : Float) : Type 0 where
-  pub is_finite : T (finite x)
-  pub is_held : T (fits binary64 x)
-
--- the pattern of plus infinity: above all patterns of finite doubles, without their sign
-abbrev pub bound : ℕ
-bound = 0x7ff0_0000_0000_0000
-
 bits_low : (x : Float) → Double x → to_bits binary64 x % 2 ^ 63 < bound
 bits_low x d =
     let b = to_bits binary64 x in
@@ -65,10 +57,6 @@ bits_low x d =
     omega (arith, eqb-false (b % 2 ^ 63 / 2 ^ 52) 2047 (not-true (eqb (b % 2 ^ 63 / 2 ^ 52) 2047) not_ones))
 
 -- ---- the pattern of m * 2 ^ e
-
--- how many of the smallest double it is
-abbrev pub many : ℕ → ℤ → ℕ
-many m e = m * up e * 2 ^ 1074 / down e
 
 -- the pattern of n of the smallest double
 abbrev code : ℕ → ℕ
@@ -264,7 +252,7 @@ order_bound x d = rw (order_is x (is_false (is_nan x) (finite_num x d.is_finite)
 pub low_no_nan : (b : ℕ) → b % 2 ^ 63 < bound → nan_bits binary64 b ≡ false
 low_no_nan b l = nan_bits_above binary64 b ∙ le-ltb bound (b % 2 ^ 63) (le_of_lt l)
 
--- In that range `ofOrder` is the double with the number's pattern.
+-- In that range `of_order` is the double with the number's pattern.
 pub of_order_is : (k : ℤ) → nat_abs k < bound → of_order k ≡ of_bits binary64 (pattern_of k)
 unfolding of_order
 of_order_is k l = rw (lt-ltb (nat_abs k) bound l)
@@ -314,10 +302,6 @@ of_order_order x d n =
     ∙ of_bits-to_bits binary64 x d.is_held
 
 -- ---- finite, by two comparisons
-
--- the largest finite double, 1.7976931348623157e308
-abbrev pub largest : Float
-largest = of_bits binary64 0x7fef_ffff_ffff_ffff
 
 ends : (largest ≡ of_order (pos 0x7fef_ffff_ffff_ffff)) × (neg largest ≡ of_order (negsuc 0x7fef_ffff_ffff_fffe))
 unfolding of_order of_bits of_fields odd neg

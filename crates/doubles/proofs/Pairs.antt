@@ -1,28 +1,14 @@
 -- Pairs of points in either order: what lies between, pairs nested in pairs, and a point pulled between. Assumes nothing.
-use Rattle.std.specs.Prelude.{◌≡◌, refl, ◌↔◌, ◌⊎◌, List, [], ◌∷◌, Bool, true, false, cond, T, ℤ, ◌≤ℤ◌, Float}
+use Rattle.std.specs.Prelude.{◌≡◌, refl, ◌↔◌, List, [], ◌∷◌, Bool, true, false, cond, T, ◌≤ℤ◌, Float}
 use Rattle.std.proofs.Common.{sym, ◌∙◌, subst, inl, inr, true≢false}
 use Rattle.std.specs.Float.Ieee.{lt, le}
 use Rattle.std.specs.Float.Ieee.Bits.{is_true}
 use Rattle.doubles.specs.Doubles.{order_of, clamp, beyond, pulled, lower, higher, outside}
 use Rattle.doubles.specs.Compare.{Num}
 use Rattle.doubles.proofs.Compare.{of_true, same_test, le_nums, le_refl, le_trans, le_total, lt→le, no_lt_le, lt_le_trans, le_lt_trans, clamp_between, clamp_inside, clamp_one, beyond_inside}
-use Rattle.doubles.proofs.Number.{Double, le_order}
-
--- between two points, ends included, whichever is the smaller
-abbrev pub Inside : Float → Float → Float → Type 0
-Inside u v c = (T (le u c) × T (le c v)) ⊎ (T (le v c) × T (le c u))
-
-pub record Pair : Type 0 where
-  pub one : Float
-  pub other : Float
-
-abbrev pub In : Pair → Float → Type 0
-In p c = Inside p.one p.other c
-
--- both ends of q lie in p
-pub record Nested (p q : Pair) : Type 0 where
-  pub one_in : In p q.one
-  pub other_in : In p q.other
+use Rattle.doubles.specs.Number.{Double}
+use Rattle.doubles.proofs.Number.{le_order}
+use Rattle.doubles.specs.Pairs.{Inside, Pair, In, Nested, OneEnd, Chain, Every, last, BetweenZ, first_kept, second_kept, first_kept_turned, second_kept_turned}
 
 -- c between a and b, which lie both between u and v, with u the smaller
 hull : (u v a b c : Float) → T (le u a) → T (le a v) → T (le u b) → T (le b v) → Inside a b c → Inside u v c
@@ -54,13 +40,6 @@ nested_trans p q r n m = record { one_in = in_trans p q r.one n m.one_in; other_
 pub end_in : (u v : Float) → Num u → Num v → Inside u v u
 end_in u v p q = elim (le_total u v p q) [ inl l ↦ inl (le_refl u p, l) | inr l ↦ inr (lt→le v u l, le_refl u p) ]
 
--- the pair (a, b) keeps an end of (u, v), and its other point lies between
-pub data OneEnd (u v : Float) : Float → Float → Type 0 where
-  first_kept : {c : Float} → Inside u v c → OneEnd u v u c
-  second_kept : {c : Float} → Inside u v c → OneEnd u v c v
-  first_kept_turned : {c : Float} → Inside u v c → OneEnd u v c u
-  second_kept_turned : {c : Float} → Inside u v c → OneEnd u v v c
-
 -- Replacing one end by a point between gives a nested pair.
 pub one_end : (u v a b : Float) → Num u → Num v → OneEnd u v a b → Nested (record { one = u; other = v }) (record { one = a; other = b })
 one_end u v a b p q (first_kept h) = record { one_in = end_in u v p q; other_in = h }
@@ -69,18 +48,6 @@ one_end u v a b p q (first_kept_turned h) = record { one_in = h; other_in = end_
 one_end u v a b p q (second_kept_turned h) = record { one_in = swap v u v (end_in v u q p); other_in = h }
 
 -- ---- a first pair and the pairs after it, each nested in the one before
-
-abbrev pub Chain : Pair → List Pair → Type 0
-Chain p [] = Unit {0}
-Chain p (q ∷ l) = Nested p q × Chain q l
-
-abbrev pub Every : (Pair → Type 0) → List Pair → Type 0
-Every P [] = Unit {0}
-Every P (q ∷ l) = P q × Every P l
-
-abbrev pub last : Pair → List Pair → Pair
-last p [] = p
-last p (q ∷ l) = last q l
 
 widen : (p q : Pair) (l : List Pair) → Nested p q → Every (Nested q) l → Every (Nested p) l
 widen p q [] n h = tt
@@ -163,9 +130,6 @@ outside_beyond u v x = go (lt u v) (le u v) refl refl
     go false false d e = refl
 
 -- ---- between, by the order number
-
-abbrev pub BetweenZ : ℤ → ℤ → ℤ → Type 0
-BetweenZ a b c = ((a ≤ℤ c) × (c ≤ℤ b)) ⊎ ((b ≤ℤ c) × (c ≤ℤ a))
 
 le_iff : (x y : Float) → Double x → Double y → T (le x y) ↔ order_of x ≤ℤ order_of y
 le_iff x y d e = let w = le_order x y d e in (λ t. w.0 (is_true (le x y) t), λ l. of_true (le x y) (w.1 l))

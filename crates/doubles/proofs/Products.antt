@@ -11,12 +11,7 @@ use Rattle.std.specs.Float.Ieee.Fits.{up_pos, down_pos, and_l, and_r, and_i}
 use Rattle.std.specs.Float.Ieee.Positive.{first_pos}
 use Rattle.doubles.specs.Doubles.{nought, above, below, same_sign, opposite_sign}
 use Rattle.doubles.proofs.Compare.{of_true, same_test}
-
--- whether x is a number on the side s of zero: below it where s is true, and above it otherwise
-abbrev pub stands : Bool → Float → Bool
-stands s nan = false
-stands s (inf t) = beq s t
-stands s (fin t m e) = beq s t && ltb 0 m
+use Rattle.doubles.specs.Products.{stands}
 
 -- ---- above and below zero
 

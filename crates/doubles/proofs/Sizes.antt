@@ -1,5 +1,5 @@
 -- How small a double may be: what halving and multiplying leave of its size, and that a product of doubles that are not too small tells their signs. Assumes nothing.
-use Rattle.std.specs.Prelude.{ℕ, zero, suc, ◌+◌, ◌-◌, ◌*◌, ◌^◌, ◌≤◌, ◌<◌, Bool, true, false, cond, ◌≡◌, refl, T, leb, ltb, eqb, ℤ, pos, negsuc, Float}
+use Rattle.std.specs.Prelude.{ℕ, zero, suc, ◌+◌, ◌-◌, ◌*◌, ◌^◌, ◌≤◌, ◌<◌, Bool, true, false, cond, ◌≡◌, refl, T, leb, ltb, eqb, ℤ, negsuc, Float}
 use Rattle.std.proofs.Common.{one-mul, mul-pos, mul-le-mul, mul_comm, le_of_eq, le_trans, lt_irrefl, zero-mul, arith, ap, sym, ◌∙◌, subst, leb→le, le→leb, ne_eqb, ltb-false, pow-add, pow_pos}
 use Rattle.std.proofs.Math.Nat.{mul-mul-mul_comm}
 use Rattle.std.specs.Bool.{beq}
@@ -12,14 +12,10 @@ use Rattle.std.specs.Float.Ieee.Order.{drop, kept, round_mono}
 use Rattle.std.specs.Float.Ieee.Scale.{finite}
 use Rattle.std.specs.Float.Ieee.Positive.{positive, positive_of_value, values_of_le, above_of_le}
 use Rattle.doubles.specs.Doubles.{absolute, above, same_sign}
-use Rattle.doubles.proofs.Products.{stands, below_is, beq_eq, itself, finite_stands, round_side, is_above, is_below, not_above, not_below, product_above, product_below}
+use Rattle.doubles.specs.Products.{stands}
+use Rattle.doubles.proofs.Products.{below_is, beq_eq, itself, finite_stands, round_side, is_above, is_below, not_above, not_below, product_above, product_below}
 use Rattle.doubles.proofs.Signs.{opposite_not_same}
-
--- whether x is 2 ^ -k or more in size
-abbrev pub at_least : ℕ → Float → Bool
-at_least k nan = false
-at_least k (inf s) = true
-at_least k (fin s m e) = leb (down e) (m * up e * 2 ^ k)
+use Rattle.doubles.specs.Sizes.{at_least, twice}
 
 not_less : (j m : ℕ) (e : ℤ) → lt (fin false m e) (fin false 1 (negsuc j)) ≡ false → T (leb (down e) (m * up e * 2 ^ suc j))
 unfolding lt
@@ -104,9 +100,6 @@ product_size (fin s m e) (inf t) j k l p q = infinite j m e (unlike s t) p (j + 
 product_size (fin s m e) (fin t n d) j k l p q =
     rounded (unlike s t) (m * up e * (n * up d)) (down e * down d) (j + k) (mul-pos (down_pos e) (down_pos d)) l
     (cross (down e) (down d) (m * up e) (n * up d) j k (leb→le (down e) (m * up e * 2 ^ j) p) (leb→le (down d) (n * up d * 2 ^ k) q))
-
-abbrev pub twice : Float
-twice = fin false 1 (pos 1)
 
 pub half_size : (x : Float) (k : ℕ) → k + 1 ≤ 1074 → T (at_least k x) → T (at_least (k + 1) (div binary64 x twice))
 unfolding div

@@ -7,13 +7,11 @@ use Rattle.std.specs.Float.Ieee.{fits, up, down, odd, units, round, sum, add}
 use Rattle.std.specs.Float.Ieee.Fits.{up_pos, down_pos, round_is}
 use Rattle.std.specs.Float.Ieee.Order.{drop, kept}
 use Rattle.doubles.proofs.Compare.{of_true}
-use Rattle.doubles.proofs.Number.{many, fits_whole}
-use Rattle.doubles.proofs.Sizes.{at_least, above_zero, rounded}
-
-abbrev pub minus_zero : Float → Bool
-minus_zero nan = false
-minus_zero (inf s) = false
-minus_zero (fin s m e) = s && eqb m 0
+use Rattle.doubles.specs.Number.{many}
+use Rattle.doubles.proofs.Number.{fits_whole}
+use Rattle.doubles.specs.Sizes.{at_least}
+use Rattle.doubles.proofs.Sizes.{above_zero, rounded}
+use Rattle.doubles.specs.Sums.{minus_zero}
 
 -- ---- what is rounded
 

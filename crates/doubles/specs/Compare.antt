@@ -1,4 +1,4 @@
--- What the laws of the same name speak of. Definitions only.
+-- What is a number and no NaN, and sizes that stand alike. Definitions only.
 use Rattle.std.specs.Prelude.{◌↔◌, not, ℕ, ◌<◌, T}
 use lib.Ieee.{Float, is_nan}
 

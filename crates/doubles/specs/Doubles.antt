@@ -10,7 +10,7 @@ abbrev pub exponent_width : ℕ
 exponent_width = 11
 
 -- of a pattern: "A number is finite unless its eleven exponent bits are all ones". Which doubles are finite is `finite` of lib.Ieee.Scale;
--- `finite-exponent` of Number says that it is this, and `finite-compared` that comparisons tell it.
+-- `finite_exponent` of proofs/Number says that it is this, and `finite_compared` that comparisons tell it.
 abbrev pub exponent_all_ones : ℕ → Bool
 exponent_all_ones bits = eqb (bits / 2 ^ 52 % 2 ^ exponent_width) (2 ^ exponent_width - 1)
 

@@ -13,7 +13,8 @@ use Rattle.polynom.specs.declared.ValueAndDerivative.{ValueAndDerivative}
 use Rattle.polynom.specs.declared.EvaluatedBoth.TheVariants.{Both, NotBothFinite}
 use Rattle.searching.specs.Programs.{found, tested, oracle, Event, noted, Prog, Turned}
 use Rattle.searching.specs.Histories.{steps_in, mark_in}
-use Rattle.searching.proofs.Keeps.{Ends, After, branches, ends_done, ends_stops, ends_both, ends_offered, ends_steps, ends_searches}
+use Rattle.searching.specs.Keeps.{Ends, After}
+use Rattle.searching.proofs.Keeps.{branches, ends_done, ends_stops, ends_both, ends_offered, ends_steps, ends_searches}
 use Rattle.searching.specs.Reasons.{some_ends, True, Slope, derivative_at, Unmarked, Plain, by_value, by_width, of_flatness, of_derivative, of_candidate}
 use Rattle.searching.proofs.ReasonLaws.{answered_both, not_answered_both, plain_on, plain_next, plain_going, plain_limit_lem}
 use Rattle.newton_raphson.specs.NewtonRaphson.{landed, onward, later_at, turn_from, nudged_to, nudge, first_at, opening, turns_left, newton_program}

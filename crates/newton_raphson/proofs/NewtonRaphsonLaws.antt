@@ -13,7 +13,8 @@ use Rattle.searching.specs.Programs.{Turned, ended, next, oracle, play, tallied}
 use Rattle.searching.specs.Bounds.{Within, More}
 use Rattle.searching.proofs.BoundLaws.{within_done, within_test, within_stops, within_both, within_offered, within_steps, within_less, within_searches, answer_within}
 use Rattle.searching.specs.Loops.{Turns, run_of}
-use Rattle.searching.proofs.LoopLaws.{opened_ended, opened_next, Shown, shown_end, shown_go, seen_once}
+use Rattle.searching.specs.Loops.{Shown, shown_end, shown_go}
+use Rattle.searching.proofs.LoopLaws.{opened_ended, opened_next, seen_once}
 use Rattle.newton_raphson.specs.NewtonRaphson.{landed, onward, later_at, turn_from, nudged_to, nudge, first_at, opening, turns_left, newton_program, newton_raphson, seen}
 use Rattle.newton_raphson.specs.declared.Spot.{Spot}
 use Rattle.newton_raphson.specs.declared.To.{To}

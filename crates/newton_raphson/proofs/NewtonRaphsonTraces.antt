@@ -6,9 +6,10 @@ use Rattle.polynom.specs.declared.ValueAndDerivative.{ValueAndDerivative}
 use Rattle.simple_convergency.specs.declared.StopRule.{StopRule}
 use Rattle.searching.specs.Programs.{oracle, Event, Prog, Turned}
 use Rattle.searching.specs.Events.{evaluations_in, candidates_in, evaluated_since, Untried, SampledBoth, AnsweredBoth, Each, Ordered}
-use Rattle.searching.proofs.Keeps.{Ends, After, ends_done, ends_test, ends_stops, ends_both, ends_offered, ends_steps, ends_searches}
+use Rattle.searching.specs.Keeps.{Ends, After}
+use Rattle.searching.proofs.Keeps.{ends_done, ends_test, ends_stops, ends_both, ends_offered, ends_steps, ends_searches}
 use Rattle.newton_raphson.specs.NewtonRaphson.{landed, onward, later_at, turn_from, nudged_to, nudge, first_at, opening, turns_left, newton_program}
-use Rattle.newton_raphson.proofs.NewtonRaphsonEvents.{Follows, Gives}
+use Rattle.newton_raphson.specs.NewtonRaphsonEvents.{Follows, Gives}
 use Rattle.newton_raphson.specs.declared.Spot.{Spot}
 
 module _ (a : List Float) (stop : StopRule) (start : Float) where

@@ -11,7 +11,8 @@ use Rattle.std.specs.Float.Ieee.Fits.{and_l, and_r, down_pos, round_is}
 use Rattle.std.specs.Float.Ieee.Order.{drop, kept, round_mono}
 use Rattle.std.specs.Float.Ieee.Scale.{finite, round_under}
 use Rattle.doubles.proofs.Compare.{le_no_lt}
-use Rattle.doubles.proofs.Number.{Double, largest, finite_compared}
+use Rattle.doubles.specs.Number.{Double, largest}
+use Rattle.doubles.proofs.Number.{finite_compared}
 use Rattle.polynom.specs.Polynom.{one}
 use Rattle.searching.specs.Programs.{candidate, log, test, offered}
 use Rattle.newton_raphson.specs.NewtonRaphson.{nudged_to, nudge}

@@ -1,4 +1,3 @@
--- What the contracts of `newton_raphson` cite, and what the laws of searches give for it.
+-- What the contracts of `newton_raphson` cite, and what is promised of its history.
 pub mod NewtonRaphson
-
--- the nudge never gives 9
+pub mod NewtonRaphsonEvents

@@ -5,7 +5,8 @@ use Rattle.std.proofs.Math.Seq.{drop-length}
 use Rattle.std.specs.Float.{nan, binary64}
 use Rattle.std.specs.Float.Ieee.{fits, of_bits}
 use Rattle.std.specs.Float.Ieee.Fits.{add-fits, mul-fits}
-use Rattle.doubles.proofs.Sums.{minus_zero, sum_not_minus}
+use Rattle.doubles.specs.Sums.{minus_zero}
+use Rattle.doubles.proofs.Sums.{sum_not_minus}
 use Rattle.polynom.specs.declared.Sum.{Sum}
 use Rattle.polynom.specs.Polynom.{nothing_summed, summed, sums, whole, value, Sums, nothing_summed_both, summed_both, sums_both, value_and_derivative}
 

@@ -11,8 +11,8 @@ use Rattle.std.specs.Float.Ieee.Fits.{cond-fits, add-fits, sub-fits, div-fits}
 use Rattle.std.specs.Float.Ieee.Scale.{finite}
 use Rattle.doubles.proofs.Compare.{of_true}
 use Rattle.doubles.specs.Doubles.{nought, same_sign, outside, pulled}
-use Rattle.doubles.proofs.Number.{Double}
-use Rattle.doubles.proofs.Pairs.{In}
+use Rattle.doubles.specs.Number.{Double}
+use Rattle.doubles.specs.Pairs.{In}
 use Rattle.doubles.proofs.Signs.{same_symmetric, shared_replaced}
 use Rattle.numerical.specs.Middle.{middle_of, crosses}
 use Rattle.numerical.specs.declared.Answer.TheVariants.{Refused}
@@ -24,10 +24,12 @@ use Rattle.polynom.specs.declared.ValueAndDerivative.{ValueAndDerivative}
 use Rattle.searching.specs.Programs.{found, converged, candidate, ruled, Prog, Turned, Event, noted, rising, oracle}
 use Rattle.searching.specs.Histories.{steps_in}
 use Rattle.searching.specs.Reasons.{some_ends, by_middle, of_derivative, of_middle}
-use Rattle.searching.proofs.ReasonLaws.{Answered, answered_both, not_answered_both}
+use Rattle.searching.specs.ReasonLaws.{Answered}
+use Rattle.searching.proofs.ReasonLaws.{answered_both, not_answered_both}
 use Rattle.searching.specs.Brackets.{pairs_in, points_of, Backed, Fit, AtStarts, Bracket, Unpaired, Bracketing}
 use Rattle.searching.proofs.BracketLaws.{double_finite, answered_fit, ends_fit, refused_late, unpaired_none, unpaired_value, bracketed_ends, bracket_backed, bracket_in, bracket_narrows, bracket_on, bracket_pulled, bracket_going, bracket_next, bracket_found, bracket_value, bracket_no_candidate, bracket_limit}
-use Rattle.searching.proofs.Keeps.{Ends, After, ends_done, ends_log, ends_test, ends_stops, ends_both, ends_offered, ends_pulled, ends_narrows, ends_searches}
+use Rattle.searching.specs.Keeps.{Ends, After}
+use Rattle.searching.proofs.Keeps.{ends_done, ends_log, ends_test, ends_stops, ends_both, ends_offered, ends_pulled, ends_narrows, ends_searches}
 use Rattle.polynom_search.specs.PolynomSearch.{second_at, first_at, ordered, opening, pair_of, replaced_of, chosen, closer, newton_point, in_pair, usable, at_middle, step_at, width_at, pulled_in, at_middle_of, turn_from, polynom_program}
 
 -- ---- points and pairs

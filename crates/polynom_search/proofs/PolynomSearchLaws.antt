@@ -15,7 +15,8 @@ use Rattle.searching.specs.Programs.{rising, oracle, play, tallied}
 use Rattle.searching.specs.Bounds.{Within, More}
 use Rattle.searching.proofs.BoundLaws.{within_done, within_test, within_stops, within_ruled, within_pulled, within_value, within_both, within_offered, within_bracketed, within_narrows, within_less, within_searches, answer_within}
 use Rattle.searching.specs.Loops.{Turns, run_of}
-use Rattle.searching.proofs.LoopLaws.{opened_ended, opened_next, Shown, shown_end, shown_go, seen_once}
+use Rattle.searching.specs.Loops.{Shown, shown_end, shown_go}
+use Rattle.searching.proofs.LoopLaws.{opened_ended, opened_next, seen_once}
 use Rattle.polynom_search.specs.PolynomSearch.{second_at, first_at, ordered, opening, chosen, closer, at_middle, step_at, width_at, pulled_in, at_middle_of, turn_from, polynom_program, polynom_search, seen}
 use Rattle.polynom_search.specs.declared.To.{To}
 use Rattle.polynom_search.specs.declared.To.TheVariants.{Ended, Next}

@@ -15,9 +15,10 @@ use Rattle.searching.specs.Programs.{rising, found, converged, oracle, Event, as
 use Rattle.searching.specs.Brackets.{pairs_in}
 use Rattle.searching.specs.Events.{evaluations_in, candidates_in, evaluated_since, Tried, AnsweredBoth, lower_of, upper_of, PointsOf, PulledNow, Traced, Opening, Tracing}
 use Rattle.searching.proofs.EventLaws.{opening_none, opening_value, tracing_newest, tracing_value, tracing_both, tracing_stops, tracing_candidate, tracing_ruled, tracing_narrows, traced_end, traced_bracketed}
-use Rattle.searching.proofs.Keeps.{Ends, After, ends_done, ends_test, ends_searches}
+use Rattle.searching.specs.Keeps.{Ends, After}
+use Rattle.searching.proofs.Keeps.{ends_done, ends_test, ends_searches}
 use Rattle.polynom_search.specs.PolynomSearch.{second_at, first_at, ordered, opening, pair_of, replaced_of, chosen, closer, newton_point, usable, at_middle, step_at, width_at, pulled_in, at_middle_of, turn_from, polynom_program}
-use Rattle.polynom_search.proofs.PolynomSearchEvents.{ChosenNow, Follows, Gives}
+use Rattle.polynom_search.specs.PolynomSearchEvents.{ChosenNow, Follows, Gives}
 use Rattle.polynom_search.proofs.PolynomSearchKeeps.{replaced_one}
 
 module _ (a : List Float) (stop : StopRule) (from to : Float) where

@@ -10,7 +10,8 @@ use Rattle.numerical.specs.declared.Answer.{Answer}
 use Rattle.numerical.specs.declared.Outcome.{Outcome}
 use Rattle.numerical.specs.declared.Progress.{Progress}
 use Rattle.simple_convergency.specs.Stop.{greatest_limit, either_bad, checked_of}
-use Rattle.simple_convergency.proofs.StopLaws.{Good, both_good, good_above}
+use Rattle.simple_convergency.specs.StopLaws.{Good}
+use Rattle.simple_convergency.proofs.StopLaws.{both_good, good_above}
 use Rattle.simple_convergency.specs.declared.StopRule.{StopRule}
 use Rattle.simple_convergency.specs.declared.Checked.TheVariants.{Rule, Refused as RuleRefused}
 use Rattle.searching.specs.Programs.{Prog, done, ask, ask_both, log, Event, asked, asked_both, noted, oracle, play, answer_of}
@@ -18,7 +19,7 @@ use Rattle.searching.specs.Histories.{listed, history, values_in, derivatives_in
 use Rattle.searching.proofs.ProgramLaws.{play_counted, tallies_are_counts}
 use Rattle.searching.specs.Histories.{counted}
 use Rattle.polynom.specs.Polynom.{evaluated, evaluated_both}
-use Rattle.searching.proofs.Keeps.{Ends}
+use Rattle.searching.specs.Keeps.{Ends}
 use Rattle.brent.specs.Brent.{brent}
 use Rattle.regula_falsi.specs.RegulaFalsi.{regula_falsi}
 use Rattle.secant.specs.Secant.{secant}
@@ -28,7 +29,7 @@ use Rattle.simple_convergency.specs.declared.Tolerances.{Tolerances}
 use Rattle.roots.specs.Calls.{bad_count, all_finite, starts_of, found_by, found_under, answer}
 use Rattle.roots.specs.declared.Method.{Method}
 use Rattle.roots.specs.declared.Method.TheVariants.{Brent, RegulaFalsi, Secant, NewtonRaphson, Polynom}
-use Rattle.promises.proofs.EarlyLaws.{at_once}
+use Rattle.promises.specs.EarlyLaws.{at_once}
 use Rattle.promises.specs.Counts.{rule_of}
 use Rattle.promises.specs.Searches.{program_of, history_of, Truthful}
 

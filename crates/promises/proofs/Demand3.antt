@@ -1,7 +1,7 @@
 -- The theorems about what specs/Demand3.antt defines.
 use Rattle.std.specs.Prelude.{ℕ, false, List, ◌⊎◌, ◌≡◌, Float}
 use Rattle.std.proofs.Common.{sym, subst}
-use Rattle.doubles.proofs.Sums.{minus_zero}
+use Rattle.doubles.specs.Sums.{minus_zero}
 use Rattle.polynom.proofs.TermLaws.{value_not_minus}
 use Rattle.searching.proofs.ExactLaws.{decided, tests_honest, points_finite, exactly_by_value, exactly_by_width, exactly_six, exactly_seven, exactly_eight, exactly_nine}
 use Rattle.simple_convergency.specs.declared.Tolerances.{Tolerances}
@@ -9,7 +9,8 @@ use Rattle.roots.specs.Calls.{starts_of, answer}
 use Rattle.roots.specs.declared.Method.{Method}
 use Rattle.roots.specs.declared.Method.TheVariants.{RegulaFalsi}
 use Rattle.promises.specs.Searches.{Passes, Held, Bracketed}
-use Rattle.promises.proofs.EarlyLaws.{at_once, passes_at_once}
+use Rattle.promises.specs.EarlyLaws.{at_once}
+use Rattle.promises.proofs.EarlyLaws.{passes_at_once}
 use Rattle.promises.proofs.AnswerLaws.{counts_of, history_truthful}
 use Rattle.promises.proofs.EndLaws.{reason_of, value_true, width_true}
 use Rattle.promises.proofs.PairLaws.{pairs_of, pairs_nested, root_by_value, root_by_width}

@@ -15,11 +15,7 @@ use Rattle.roots.proofs.CallLaws.{first_of}
 use Rattle.roots.specs.Calls.{bad_count, all_finite, starts_of}
 use Rattle.roots.specs.declared.Method.{Method}
 use Rattle.promises.specs.Searches.{BadCount, SomeNotFinite, BadTolerance, EitherBad, Early, one, two, three, four, five, Passes}
-
--- a test tells whether P holds
-pub record Tells (P : Type 0) (b : Bool) : Type 0 where
-  pub yes : b ≡ true → P
-  pub no : b ≡ false → ¬ P
+use Rattle.promises.specs.EarlyLaws.{Tells, at_once}
 
 module _ {P : Type 0} {b : Bool} (t : Tells P b) where
   pub is_so : P → b ≡ true
@@ -102,17 +98,6 @@ pub tells_limit : (limit : ℕ) → Tells (greatest_limit < limit) (ltb greatest
 tells_limit limit = record { yes = ltb-true greatest_limit limit; no = λ e l. omega (arith, ltb-false greatest_limit limit e, l) }
 
 -- ---- the first of them
-
--- the definition's tests in turn: the first of 1 to 5 that a call gets, and 0 where it gets none
-unfoldable pub at_once : List Float → Method → Tolerances → ℕ → ℕ
-at_once a m tolerances limit =
-    cond (bad_count (length a)) 1
-    (cond (all_finite a)
-    (cond (all_finite (starts_of m))
-    (cond (either_bad tolerances) 4
-    (cond (ltb greatest_limit limit) 5 0))
-    3)
-    2)
 
 module _ (a : List Float) (m : Method) (tolerances : Tolerances) (limit : ℕ) where
   pub early_at_once : {n : ℕ} → Early a m tolerances limit n → at_once a m tolerances limit ≡ n

@@ -5,7 +5,7 @@ use Rattle.std.specs.Float.{binary64}
 use Rattle.std.specs.Float.Ieee.{fits, lt, sub}
 use Rattle.std.specs.Float.Ieee.Scale.{finite}
 use Rattle.doubles.specs.Doubles.{above, absolute, same_sign}
-use Rattle.doubles.proofs.Number.{Double}
+use Rattle.doubles.specs.Number.{Double}
 use Rattle.numerical.specs.declared.Answer.{Answer}
 use Rattle.numerical.specs.declared.Answer.TheVariants.{ByValue, ByWidth, Refused}
 use Rattle.simple_convergency.specs.Stop.{found_at, converged_at}
@@ -15,7 +15,7 @@ use Rattle.searching.specs.Histories.{history}
 use Rattle.polynom.specs.Polynom.{value}
 use Rattle.searching.specs.Brackets.{Told, Bracket}
 use Rattle.searching.specs.Reasons.{Reason, by_value, by_width, by_middle, of_signs, of_flatness, of_limit, of_value, of_derivative, of_candidate, of_middle}
-use Rattle.searching.proofs.Keeps.{Ends}
+use Rattle.searching.specs.Keeps.{Ends}
 use Rattle.brent.proofs.BrentEnds.{brent_ends}
 use Rattle.regula_falsi.proofs.RegulaFalsiKeeps.{regula_falsi_ends}
 use Rattle.secant.proofs.SecantKeeps.{secant_ends}
@@ -26,7 +26,7 @@ use Rattle.roots.proofs.CallLaws.{first_of, both_of}
 use Rattle.roots.specs.Calls.{all_finite, starts_of, answer}
 use Rattle.roots.specs.declared.Method.{Method}
 use Rattle.roots.specs.declared.Method.TheVariants.{Brent, RegulaFalsi, Secant, NewtonRaphson, Polynom}
-use Rattle.promises.proofs.EarlyLaws.{at_once}
+use Rattle.promises.specs.EarlyLaws.{at_once}
 use Rattle.promises.proofs.AnswerLaws.{passed, at_answer}
 use Rattle.promises.specs.Counts.{rule_of}
 use Rattle.promises.specs.Searches.{program_of, history_of, Held, most_steps, Bracketed}

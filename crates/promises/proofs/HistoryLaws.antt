@@ -12,7 +12,7 @@ use Rattle.searching.specs.Brackets.{pairs_in}
 use Rattle.searching.specs.Events.{evaluations_in, signs_missed, Rules, Each, Width, BeforePairs, Ordered, Traced}
 use Rattle.searching.proofs.EventLaws.{mark_known, values_are}
 use Rattle.searching.specs.Histories.{steps_in, mark_in}
-use Rattle.searching.proofs.Keeps.{Ends}
+use Rattle.searching.specs.Keeps.{Ends}
 use Rattle.searching.specs.Histories.{counted}
 use Rattle.searching.specs.Programs.{flat, tested, noted, Event, oracle, answer_of}
 use Rattle.searching.specs.Reasons.{Reason, of_signs, of_flatness, of_limit, of_value, of_derivative, of_candidate, of_middle}
@@ -25,7 +25,7 @@ use Rattle.simple_convergency.specs.declared.Tolerances.{Tolerances}
 use Rattle.roots.specs.Calls.{starts_of, answer}
 use Rattle.roots.specs.declared.Method.{Method}
 use Rattle.roots.specs.declared.Method.TheVariants.{Brent, RegulaFalsi, Secant, NewtonRaphson, Polynom}
-use Rattle.promises.proofs.EarlyLaws.{at_once}
+use Rattle.promises.specs.EarlyLaws.{at_once}
 use Rattle.promises.proofs.AnswerLaws.{passed, at_answer, counts_of}
 use Rattle.promises.proofs.EndLaws.{reason_of, six_told}
 use Rattle.promises.proofs.MarkLaws.{plain_secant, plain_newton, two_marks}

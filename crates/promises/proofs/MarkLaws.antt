@@ -11,7 +11,8 @@ use Rattle.searching.specs.Histories.{history, mark_in}
 use Rattle.searching.specs.Histories.{counted}
 use Rattle.searching.proofs.ProgramLaws.{tallies_are_counts}
 use Rattle.searching.specs.Reasons.{Unmarked}
-use Rattle.regula_falsi.proofs.RegulaFalsiMarks.{ZeroOrTwo, regula_falsi_marks}
+use Rattle.regula_falsi.specs.RegulaFalsiMarks.{ZeroOrTwo}
+use Rattle.regula_falsi.proofs.RegulaFalsiMarks.{regula_falsi_marks}
 use Rattle.secant.proofs.SecantKeeps.{secant_ends}
 use Rattle.newton_raphson.proofs.NewtonRaphsonKeeps.{newton_raphson_ends}
 use Rattle.simple_convergency.specs.declared.Tolerances.{Tolerances}
@@ -19,7 +20,7 @@ use Rattle.roots.proofs.CallLaws.{first_of, both_of}
 use Rattle.roots.specs.Calls.{all_finite, starts_of, answer}
 use Rattle.roots.specs.declared.Method.{Method}
 use Rattle.roots.specs.declared.Method.TheVariants.{RegulaFalsi, Secant, NewtonRaphson}
-use Rattle.promises.proofs.EarlyLaws.{at_once}
+use Rattle.promises.specs.EarlyLaws.{at_once}
 use Rattle.promises.proofs.AnswerLaws.{by_number, answer_is, passed, at_answer}
 use Rattle.promises.proofs.RefusalLaws.{at_most_five}
 use Rattle.promises.specs.Counts.{rule_of}

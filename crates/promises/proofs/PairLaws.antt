@@ -2,8 +2,9 @@
 use Rattle.std.specs.Prelude.{ℕ, true, List, [], ◌∷◌, ◌≡◌, Float}
 use Rattle.std.proofs.Common.{subst}
 use Rattle.doubles.specs.Doubles.{order_of}
-use Rattle.doubles.proofs.Number.{Double}
-use Rattle.doubles.proofs.Pairs.{Inside, BetweenZ, inside_order}
+use Rattle.doubles.specs.Number.{Double}
+use Rattle.doubles.specs.Pairs.{Inside, BetweenZ}
+use Rattle.doubles.proofs.Pairs.{inside_order}
 use Rattle.numerical.specs.declared.Answer.{Answer}
 use Rattle.numerical.specs.declared.Answer.TheVariants.{ByValue, ByWidth}
 use Rattle.numerical.specs.declared.Interval.{Interval}
@@ -13,7 +14,7 @@ use Rattle.simple_convergency.specs.declared.Tolerances.{Tolerances}
 use Rattle.roots.specs.Calls.{all_finite, starts_of, answer}
 use Rattle.roots.specs.declared.Method.{Method}
 use Rattle.roots.specs.declared.Method.TheVariants.{Brent, RegulaFalsi, Secant, NewtonRaphson, Polynom}
-use Rattle.promises.proofs.EarlyLaws.{at_once}
+use Rattle.promises.specs.EarlyLaws.{at_once}
 use Rattle.promises.proofs.AnswerLaws.{passed}
 use Rattle.promises.proofs.EndLaws.{two_doubles, bracket_of}
 use Rattle.promises.specs.Searches.{history_of, Held, Bracketed, PairBetween, NestedByOrder}

@@ -11,10 +11,13 @@ use Rattle.simple_convergency.specs.Stop.{greatest_limit, most_coefficients}
 use Rattle.simple_convergency.specs.declared.Tolerances.{Tolerances}
 use Rattle.rows.proofs.LayoutLaws.{row_fits, fits_row}
 use Rattle.records.specs.Records.{between, is_kind, row_of, record_layout, holds_both, recordable}
-use Rattle.records.proofs.RoundLaws.{Sound, Right, most, least, same_both, row_right, right_row, recordable_parts, parts_recordable}
+use Rattle.records.specs.RoundLaws.{Sound, Right}
+use Rattle.records.proofs.RoundLaws.{most, least, same_both, row_right, right_row, recordable_parts, parts_recordable}
 use Rattle.records.specs.declared.Record.{Record}
 use Rattle.promises.proofs.EarlyLaws.{tells_finite, tells_tolerances, is_so, is_not}
 use Rattle.promises.specs.RecordLaws.{AnswerKind, Recordable}
+
+-- ---- tests of size
 
 within : (least bound n : ℕ) → least ≤ n → n ≤ bound → between least bound n ≡ true
 unfolding between
@@ -51,6 +54,8 @@ layout_of_test n h = go n (least 1 2 n h) (most 1 2 n h)
 test_of_layout : (n : ℕ) → (n ≡ 1) ⊎ (n ≡ 2) → between 1 2 n ≡ true
 test_of_layout n (inl e) = within 1 2 n (omega arith) (omega arith)
 test_of_layout n (inr e) = within 1 2 n (omega arith) (omega arith)
+
+-- ---- the tests and the words
 
 module _ (o : Record) (s : Sound o) where
   counted : o.count ≤ most_coefficients → length (take o.count o.coefficients) ≡ o.count

@@ -17,7 +17,7 @@ use Rattle.roots.specs.declared.Method.{Method}
 use Rattle.roots.specs.declared.Method.TheVariants.{Brent, RegulaFalsi, Secant, NewtonRaphson, Polynom}
 use Rattle.simple_convergency.specs.Stop.{tolerances_of}
 use Rattle.rows.specs.Layouts.{spell, Read, held, wrong, read, Row}
-use Rattle.rows.proofs.LayoutLaws.{wrong_held, row_fits, fits_row, row_only, row_back, none_right, none_otherwise}
+use Rattle.rows.proofs.LayoutLaws.{row_fits, fits_row, row_only, row_back, none_right}
 use denote.Array.{each}
 use denote.Shadow.{shadow}
 use mir.Val.{Val}
@@ -38,7 +38,8 @@ use Rattle.roots_c.specs.declared.Chosen.TheVariants.{Known}
 use Rattle.records.proofs.read.Kinds as read-kinds
 use Rattle.records.proofs.read.Reads as read-reads
 use Rattle.records.specs.Records.{row_of, record_layout, recordable, longest_record, bytes_of, written_to, left_by, told, blank, reading_of}
-use Rattle.records.proofs.RoundLaws.{Held, Sound, trimmed, row_right, recordable_parts, parts_recordable}
+use Rattle.records.specs.RoundLaws.{Held, Sound, trimmed}
+use Rattle.records.proofs.RoundLaws.{row_right, recordable_parts, parts_recordable}
 use Rattle.records.proofs.WriteLaws.{eleven, ten, enough}
 use Rattle.records.proofs.BackLaws as back
 use Rattle.records.specs.declared.Record.{Record}
@@ -49,6 +50,8 @@ use Rattle.promises.specs.Returned.{Numbered}
 use Rattle.promises.specs.Returned.{brent, illinois, secant, newton, polynom}
 use Rattle.promises.proofs.RecordLaws.{recordable_if, if_recordable}
 use Rattle.promises.specs.RecordPromises.{Writes, Reads}
+
+-- ---- they hold of the definitions
 
 refused_one : {i j : ℕ} → verdict.Refused i ≡ verdict.Refused j → i ≡ j
 refused_one e = cc
@@ -136,6 +139,8 @@ module _ (o : Record) (s : Sound o) (before : List ℕ) where
       go true e true f = let h = ltb-true (length before) (length (bytes_of o)) f in by (ten o before e h) (too_short e h)
       go true e false f = let h = ltb-false (length before) (length (bytes_of o)) f in by (enough o before e h) (all_written e h)
 
+-- ---- reading
+
 module _ (s : List ℕ) where
   none_read : read record_layout s ≡ wrong → Reads s (record { verdict = verdict.Refused 11; content = blank })
   none_read e =
@@ -152,7 +157,7 @@ module _ (s : List ℕ) where
       }
 
   module _ (o : Record) (t : List ℕ) (e : read record_layout s ≡ held o t) where
-    as_written : Rattle.rows.proofs.LayoutLaws.Written record_layout s o t
+    as_written : Rattle.rows.specs.LayoutLaws.Written record_layout s o t
     as_written = row_only record_layout s o t e
 
     own_row : row_of o ≡ as_written.numbers
@@ -209,6 +214,8 @@ module _ (s : List ℕ) where
       go : (f : Read Record) → read record_layout s ≡ f → Reads s (told (length s) (read record_layout s))
       go wrong e = subst (λ (f : Read Record). Reads s (told (length s) f)) (sym e) (none_read e)
       go (held o t) e = subst (λ (f : Read Record). Reads s (told (length s) f)) (sym e) (one_read o t e)
+
+-- ---- whatever the contract of `write` allows
 
 -- the elements of an array of f64 are values of the format
 held_each : (l : List Float) (vals : List Val) → shadow (each Float (denote.Struct.Field.f64-field).row.own_val l vals) → Held l
@@ -268,9 +275,13 @@ write_keeps κs args good v last allowed =
     (subst (λ (w : Verdict). Writes args.0 args.1.0.now w (left_by args.0 args.1.0.now (written_to args.0 (length args.1.0.now)))) (sym allowed.0)
     (writes args.0 (sound_args κs args good) args.1.0.now))
 
+-- ---- whatever the contract of `read` allows
+
 pub read_keeps :
     (κs : Lfts 1) (args : Dens κs read-kinds.ps) (r : Reading) (last : AtExit (ended_of 1 read-kinds.ps read-kinds.r) κs) → read-reads.Learnt κs args r last → Reads args.0.now r
 read_keeps κs args r last allowed = subst (Reads args.0.now) (sym allowed) (reads args.0.now)
+
+-- ---- C's two calls
 
 -- a method's number chooses it
 chosen_is : {first second : Float} {n : ℕ} {m : Method} → Numbered first second n m → chosen_by n first second ≡ Known m

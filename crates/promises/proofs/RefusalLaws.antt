@@ -11,7 +11,7 @@ use Rattle.simple_convergency.specs.Stop.{greatest_limit, either_bad}
 use Rattle.simple_convergency.specs.declared.Tolerances.{Tolerances}
 use Rattle.roots.specs.Calls.{bad_count, all_finite, starts_of, answer}
 use Rattle.roots.specs.declared.Method.{Method}
-use Rattle.promises.proofs.EarlyLaws.{at_once}
+use Rattle.promises.specs.EarlyLaws.{at_once}
 use Rattle.promises.proofs.AnswerLaws.{by_number, answer_is}
 use Rattle.promises.proofs.EndLaws.{late_number}
 use Rattle.promises.specs.Searches.{Held}

@@ -41,6 +41,8 @@ use Rattle.promises.specs.Returned.{Promised, Numbered, brent, illinois, secant,
 promised : (a : List Float) (m : Method) (tolerances : Tolerances) (limit : ℕ) → Held (starts_of m) → Promised a m tolerances limit (answer a m tolerances limit)
 promised a m tolerances limit d = record { demand1 = demand_1 a m tolerances limit d; demand2 = demand_2 a tolerances limit m; demand3 = λ p. demand_3 a m tolerances limit p d; demand3_pairs = λ p. demand_3_pairs a m tolerances limit p d }
 
+-- ---- search
+
 -- a method's starts are doubles, as every f64 is
 starts_held : (κs : Lfts 1) (args : Dens κs search-kinds.ps) → GoodsP κs search-kinds.ps args → Held (starts_of args.1.0)
 starts_held κs (s, (Brent from to, rest)) g = (of_true _ g.1.0.1.1.1.1.0.1, (of_true _ g.1.0.1.1.1.1.1.0.1, tt))
@@ -54,6 +56,8 @@ pub search_keeps :
     (κs : Lfts 1) (args : Dens κs search-kinds.ps) → GoodsP κs search-kinds.ps args → (outcome : Outcome) (last : AtExit (ended_of 1 search-kinds.ps search-kinds.r) κs) →
     search-reads.Learnt κs args outcome last → Promised args.0.now args.1.0 args.1.1.0 args.1.1.1.0 outcome
 search_keeps κs args good outcome last allowed = subst (Promised args.0.now args.1.0 args.1.1.0 args.1.1.1.0) (sym allowed) (promised _ _ _ _ (starts_held κs args good))
+
+-- ---- one eps: what `search_simple` and `search_plain` may return is what `search` may return with both tolerances equal to it
 
 pub simple_as_both :
     (κs : Lfts 1) (simple : Dens κs simple-kinds.ps) (both : Dens κs search-kinds.ps) → simple.0.now ≡ both.0.now → simple.1.0 ≡ both.1.0 → one_eps simple.1.1.0 ≡ both.1.1.0 →

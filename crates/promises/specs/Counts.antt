@@ -4,7 +4,7 @@ use Rattle.numerical.specs.declared.Outcome.{Outcome}
 use Rattle.simple_convergency.specs.Stop.{turns_of}
 use Rattle.simple_convergency.specs.declared.StopRule.{StopRule}
 use Rattle.simple_convergency.specs.declared.Tolerances.{Tolerances}
-use Rattle.brent.proofs.BrentRust.{rust_brent}
+use Rattle.brent.specs.BrentRust.{rust_brent}
 use Rattle.roots.specs.Calls.{found_by}
 use Rattle.roots.specs.declared.Method.{Method}
 use Rattle.roots.specs.declared.Method.TheVariants.{Brent, RegulaFalsi, Secant, NewtonRaphson, Polynom}

@@ -4,8 +4,8 @@ use Rattle.std.specs.Float.{binary64}
 use Rattle.std.specs.Float.Ieee.{lt, sub}
 use Rattle.std.specs.Float.Ieee.Scale.{finite}
 use Rattle.doubles.specs.Doubles.{absolute, same_sign, order_of}
-use Rattle.doubles.proofs.Pairs.{BetweenZ}
-use Rattle.doubles.proofs.Sums.{minus_zero}
+use Rattle.doubles.specs.Pairs.{BetweenZ}
+use Rattle.doubles.specs.Sums.{minus_zero}
 use Rattle.numerical.specs.declared.Answer.TheVariants.{ByValue, ByWidth, Refused}
 use Rattle.numerical.specs.declared.Outcome.{Outcome}
 use Rattle.numerical.specs.declared.Sample.{Sample}

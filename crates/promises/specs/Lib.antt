@@ -9,3 +9,5 @@ pub mod Returned
 pub mod RecordPromises
 pub mod RecordCases
 pub mod RecordLaws
+-- what only proofs read
+pub mod EarlyLaws

@@ -3,7 +3,7 @@ use Rattle.std.specs.Prelude.{ℕ, ◌≤◌, ◌<◌, ◌⊎◌, ◌↔◌, ◌
 use mathlib.Core.List.{List, ◌++◌}
 use Rattle.std.proofs.Math.ListN.{length, drop}
 use Rattle.records.specs.Records.{longest_record, bytes_of, written_to, left_by, blank, reading_of}
-use Rattle.records.proofs.RoundLaws.{Sound, trimmed}
+use Rattle.records.specs.RoundLaws.{Sound, trimmed}
 use Rattle.records.specs.declared.Record.{Record}
 use Rattle.records.specs.declared.Reading.{Reading}
 use Rattle.records.specs.declared.Verdict.{Verdict}

@@ -5,7 +5,7 @@ use Rattle.std.specs.Float.{binary64}
 use Rattle.std.specs.Float.Ieee.{fits, lt, sub}
 use Rattle.std.specs.Float.Ieee.Scale.{finite}
 use Rattle.doubles.specs.Doubles.{absolute, order_of}
-use Rattle.doubles.proofs.Pairs.{BetweenZ}
+use Rattle.doubles.specs.Pairs.{BetweenZ}
 use Rattle.numerical.specs.declared.Answer.{Answer}
 use Rattle.numerical.specs.declared.Interval.{Interval}
 use Rattle.numerical.specs.declared.Sample.{Sample}
@@ -21,11 +21,11 @@ use Rattle.regula_falsi.specs.RegulaFalsi.{illinois_program}
 use Rattle.secant.specs.Secant.{secant_program}
 use Rattle.newton_raphson.specs.NewtonRaphson.{newton_program}
 use Rattle.polynom_search.specs.PolynomSearch.{polynom_program}
-use Rattle.brent.proofs.BrentEvents as brent
-use Rattle.regula_falsi.proofs.RegulaFalsiEvents as illinois
-use Rattle.secant.proofs.SecantEvents as secant
-use Rattle.newton_raphson.proofs.NewtonRaphsonEvents as newton
-use Rattle.polynom_search.proofs.PolynomSearchEvents as polynom
+use Rattle.brent.specs.BrentEvents as brent
+use Rattle.regula_falsi.specs.RegulaFalsiEvents as illinois
+use Rattle.secant.specs.SecantEvents as secant
+use Rattle.newton_raphson.specs.NewtonRaphsonEvents as newton
+use Rattle.polynom_search.specs.PolynomSearchEvents as polynom
 use Rattle.simple_convergency.specs.declared.Tolerances.{Tolerances}
 use Rattle.roots.specs.Calls.{starts_of}
 use Rattle.roots.specs.declared.Method.{Method}

@@ -27,8 +27,10 @@ use Rattle.rows.specs.Layouts.{Layout, end, number, spell, Row, and_then}
 use Rattle.rows.proofs.LayoutLaws.{spell_append}
 use Rattle.records.specs.Records.{bits_of, head_row, tolerances_row, rule_row, call_row, answer_row, progress_row, row_of, between, is_double, is_tolerance, is_kind, numbers_for, answer_of, started_at, noughts, padded, progress_of, doubles, behind_zero, headed, with_point, tolerances_for, record_layout, holds_both, longest_record}
 use Rattle.records.specs.Parts.{rule_layout, call_layout, answer_layout, progress_layout}
-use Rattle.records.proofs.PartLaws.{CallNext, record_held, after_call, by_parts}
-use Rattle.records.proofs.RoundLaws.{Held, Sound, at_the_end, most, least}
+use Rattle.records.specs.PartLaws.{CallNext, record_held, after_call}
+use Rattle.records.proofs.PartLaws.{by_parts}
+use Rattle.records.specs.RoundLaws.{Held, Sound}
+use Rattle.records.proofs.RoundLaws.{at_the_end, most, least}
 use Rattle.records.specs.declared.Record.{Record}
 
 -- ---- how many groups

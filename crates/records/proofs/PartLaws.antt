@@ -48,6 +48,7 @@ use Rattle.records.specs.declared.AnswerRead.{AnswerRead}
 use Rattle.records.specs.declared.AnswerRead.TheVariants as answer-read
 use Rattle.records.specs.declared.ProgressRead.{ProgressRead}
 use Rattle.records.specs.declared.ProgressRead.TheVariants as progress-read
+use Rattle.records.specs.PartLaws.{CallNext, record_held, after_call}
 
 pub blank_is :
     {t : Tolerances} {o : Outcome} → t ≡ one_eps nought → o ≡ refused_at_once 0 → record { kind = 0; coefficients = noughts; count = 0; method = Brent nought nought; tolerances = t; limit = 0; outcome = o } ≡ blank
@@ -337,9 +338,6 @@ few_starts m {k} e = go (eqb m 4) e
 
 -- ---- a call
 
-abbrev pub CallNext : Type 0
-CallNext = ℕ → List Float → ℕ → Method → Tolerances → ℕ → Layout Record
-
 abbrev after_head : CallNext → ℕ → ℕ → Layout Record
 after_head next kind m = number (between 1 most_coefficients) (λ n. doubles n (λ l. rule_layout kind m (next kind l n)))
 
@@ -457,13 +455,6 @@ module _ (s : List ℕ) (at : ℕ) {t : Taken} (g : TookIf is_kind s at t) where
         answer_refused h l = answered (Refused (kind - 10)) (rw (ne_eqb kind 0 h, ne_eqb kind 1 l))
 
 -- ---- a record
-
-abbrev pub record_held : ℕ → List Float → ℕ → Method → Tolerances → ℕ → Answer → Progress → Record
-record_held kind coefficients count method tolerances limit answer progress =
-    record { kind = kind; coefficients = padded coefficients; count = count; method = method; tolerances = tolerances; limit = limit; outcome = record { answer = answer; progress = progress } }
-
-abbrev pub after_call : CallNext
-after_call kind coefficients count method tolerances limit = answer_layout (λ answer. progress_layout (λ progress. end (record_held kind coefficients count method tolerances limit answer progress)))
 
 -- the record's layout is that of its parts
 pub by_parts : record_layout ≡ call_layout after_call

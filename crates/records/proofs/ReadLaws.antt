@@ -19,6 +19,7 @@ use Rattle.records.specs.Parts.{TookDouble, DoubleTook, FilledTo}
 use Rattle.records.specs.declared.Record.{Record}
 use Rattle.records.specs.declared.TakenDouble.{TakenDouble}
 use Rattle.records.specs.declared.TakenDouble.TheVariants as taken-double
+use Rattle.records.specs.ReadLaws.{Behind, Filling}
 
 -- ---- a test of the number that was taken
 
@@ -99,10 +100,6 @@ found_none h = absurd (let z : ◌≡◌ {A = ℕ} 0 1 = cc in omega arith)
 none_found : {A : Type 0} {n : ℕ} {t : List ℕ} → none ≡ found n t → A
 none_found h = absurd (let z : ◌≡◌ {A = ℕ} 0 1 = cc in omega arith)
 
-pub record Behind (ok : ℕ → Bool) (f : Found) (n : ℕ) (t : List ℕ) : Type 0 where
-  pub is : f ≡ found n t
-  pub right : ok n ≡ true
-
 pub behind_test : (ok : ℕ → Bool) (f : Found) {n : ℕ} {t : List ℕ} → only ok f ≡ found n t → Behind ok f n t
 behind_test ok none h = none_found h
 behind_test ok (found m u) {n} {t} h = go (ok m) refl h
@@ -156,14 +153,6 @@ module _ (s : List ℕ) (at : ℕ) {r : TakenDouble} (g : DoubleTook is_double s
         }
 
 -- ---- doubles
-
--- i of k doubles are read, and p is where they end
-pub record Filling (k : ℕ) (s : List ℕ) (at : ℕ) (before a : List Float) (p i : ℕ) : Type 0 where
-  pub within : p ≤ length s
-  pub count : i ≤ k
-  pub room : k ≤ length a
-  pub goes : (next : List Float → Layout Record) → Goes (doubles k next) s at (doubles (k - i) (λ rest. next (take i a ++ rest))) p
-  pub kept : drop k a ≡ drop k before
 
 pub fill_starts : (k : ℕ) (s : List ℕ) (at : ℕ) (a : List Float) → at ≤ length s → k ≤ length a → Filling k s at a a at 0
 fill_starts k s at a h l = record { within = h; count = omega arith; room = l; goes = λ next. rw all_left (goes_here (doubles k next) h); kept = refl }

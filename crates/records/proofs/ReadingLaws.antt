@@ -6,9 +6,11 @@ use Rattle.std.proofs.Common.{sym, ◌∙◌, subst, length-drop, drop_at, take_
 use Rattle.std.proofs.Math.ListN.{length, length-append}
 use Rattle.simple_convergency.specs.Stop.{most_coefficients}
 use Rattle.rows.specs.Layouts.{spell, held, read, Row}
-use Rattle.rows.proofs.LayoutLaws.{Written, row_fits, fits_row, row_only, row_back}
+use Rattle.rows.specs.LayoutLaws.{Written}
+use Rattle.rows.proofs.LayoutLaws.{row_fits, fits_row, row_only, row_back}
 use Rattle.records.specs.Records.{row_of, record_layout, recordable, bytes_of, told, reading_of}
-use Rattle.records.proofs.RoundLaws.{Sound, trimmed, most, row_right, recordable_parts, parts_recordable}
+use Rattle.records.specs.RoundLaws.{Sound, trimmed}
+use Rattle.records.proofs.RoundLaws.{most, row_right, recordable_parts, parts_recordable}
 use Rattle.records.proofs.BackLaws as back
 use Rattle.records.proofs.PrefixLaws.{Holds, bytes_hold}
 use Rattle.records.specs.declared.Record.{Record}

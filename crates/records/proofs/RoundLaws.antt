@@ -14,7 +14,8 @@ use Rattle.numerical.specs.declared.Answer.{Answer}
 use Rattle.numerical.specs.declared.Answer.TheVariants.{ByValue, ByWidth, Refused}
 use Rattle.numerical.specs.declared.Progress.{Progress}
 use Rattle.simple_convergency.specs.Stop.{bad_tolerance, either_bad, one_eps, greatest_limit, most_coefficients}
-use Rattle.simple_convergency.proofs.StopLaws.{Good, both_good, good_both}
+use Rattle.simple_convergency.specs.StopLaws.{Good}
+use Rattle.simple_convergency.proofs.StopLaws.{both_good, good_both}
 use Rattle.simple_convergency.specs.declared.Tolerances.{Tolerances}
 use Rattle.roots.specs.Calls.{starts_of, all_finite}
 use Rattle.roots.proofs.CallLaws.{first_of}
@@ -23,15 +24,12 @@ use Rattle.roots.specs.declared.Method.{Method}
 use Rattle.roots.specs.declared.Method.TheVariants.{Brent, RegulaFalsi, Secant, NewtonRaphson, Polynom}
 use Rattle.rows.specs.Layouts as rows
 use Rattle.rows.specs.Layouts.{Layout, end, number, Row, at_end, and_then}
-use Rattle.records.specs.Records.{bits_of, head_row, tolerances_row, rule_row, call_row, answer_row, progress_row, row_of, between, is_double, is_tolerance, is_kind, is_tally, numbers_for, answer_of, started_at, padded, doubles, behind_zero, headed, with_point, tolerances_for, record_layout, holds_both, recordable}
+use Rattle.records.specs.Records.{bits_of, head_row, tolerances_row, rule_row, call_row, answer_row, progress_row, row_of, between, is_double, is_tolerance, is_kind, is_tally, numbers_for, answer_of, started_at, doubles, behind_zero, headed, with_point, tolerances_for, record_layout, holds_both, recordable}
 use Rattle.records.specs.Parts.{rule_layout, call_layout, answer_layout, progress_layout}
-use Rattle.records.proofs.PartLaws.{CallNext, record_held, after_call, by_parts}
+use Rattle.records.specs.PartLaws.{CallNext, record_held, after_call}
+use Rattle.records.proofs.PartLaws.{by_parts}
 use Rattle.records.specs.declared.Record.{Record}
-
--- doubles: values of the format, as every f64 is
-abbrev pub Held : List Float → Type 0
-Held [] = Unit {0}
-Held (x ∷ rest) = T (fits binary64 x) × Held rest
+use Rattle.records.specs.RoundLaws.{Held, trimmed, Sound, Right}
 
 -- ---- a double and its bits
 
@@ -109,37 +107,6 @@ unfolding answer_of
 answer_is (ByValue root value) = refl
 answer_is (ByWidth root p q) = refl
 answer_is (Refused n) = rw (ne_eqb (10 + n) 0 (λ e. omega (arith, e)), ne_eqb (10 + n) 1 (λ e. omega (arith, e))) (ap Refused (omega arith))
-
--- what a record keeps of its coefficients: those that it counts
-abbrev pub trimmed : Record → Record
-trimmed o = record { kind = o.kind; coefficients = padded (take o.count o.coefficients); count = o.count; method = o.method; tolerances = o.tolerances; limit = o.limit; outcome = o.outcome }
-
--- what the language gives a record to be: doubles, 16 of them for the coefficients, and numbers of 64 bits
-pub record Sound (o : Record) : Type 0 where
-  pub kind : o.kind < 2 ^ 64
-  pub all : length o.coefficients ≡ most_coefficients
-  pub coefficients : Held (take o.count o.coefficients)
-  pub starts : Held (starts_of o.method)
-  pub value_tolerance : T (fits binary64 o.tolerances.value)
-  pub point_tolerance : T (fits binary64 o.tolerances.point)
-  pub limit : o.limit < 2 ^ 64
-  pub numbers : Held (numbers_of o.outcome.answer)
-  pub steps : o.outcome.progress.tally.steps.0 < 2 ^ 64
-  pub values : o.outcome.progress.tally.values.0 < 2 ^ 64
-  pub derivatives : o.outcome.progress.tally.derivatives.0 < 2 ^ 64
-
--- each number passes its test, and the kind has room for both tolerances
-pub record Right (o : Record) : Type 0 where
-  pub kind : between 1 2 o.kind ≡ true
-  pub count : between 1 most_coefficients o.count ≡ true
-  pub coefficients : all_finite (take o.count o.coefficients) ≡ true
-  pub starts : all_finite (starts_of o.method) ≡ true
-  pub tolerances : either_bad o.tolerances ≡ false
-  pub both : holds_both o.kind o.tolerances ≡ true
-  pub limit : between 0 greatest_limit o.limit ≡ true
-  pub answer : is_kind (kind_of o.outcome.answer) ≡ true
-  pub numbers : all_finite (numbers_of o.outcome.answer) ≡ true
-  pub mark : between 0 2 o.outcome.progress.mark ≡ true
 
 pub most : (least bound n : ℕ) → between least bound n ≡ true → n ≤ bound
 unfolding between

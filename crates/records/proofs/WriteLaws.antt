@@ -18,7 +18,7 @@ use Rattle.roots.specs.declared.Method.{Method}
 use Rattle.roots.specs.declared.Method.TheVariants.{NewtonRaphson}
 use Rattle.rows.specs.Layouts.{spell, fits, Read, held, wrong, read}
 use Rattle.rows.proofs.LayoutLaws.{row_only, right_if, wrong_if_none, wrong_if_short}
-use Rattle.rows.specs.Puts.{Put, PutRow}
+use Rattle.rows.specs.Puts.{PutRow}
 use Rattle.rows.proofs.PutLaws.{put_nothing, put_one, put_both, put_length, put_front, row_nothing, row_both}
 use Rattle.records.specs.Records.{bits_of, head_row, tolerances_row, rule_row, call_row, answer_row, progress_row, row_of, record_layout, holds_both, recordable, bytes_of, written_to, left_by, told, reading_of}
 use Rattle.records.specs.Parts.{is_all, whole_of}
@@ -26,6 +26,7 @@ use Rattle.records.specs.declared.Record.{Record}
 use Rattle.records.specs.declared.Reading.{Reading}
 use Rattle.records.specs.declared.Verdict.{Verdict}
 use Rattle.records.specs.declared.Verdict.TheVariants as verdict
+use Rattle.records.specs.WriteLaws.{PuttingDoubles, Copying}
 
 -- ---- doubles
 
@@ -33,15 +34,6 @@ pub bits_append : (a b : List Float) → bits_of (a ++ b) ≡ bits_of a ++ bits_
 unfolding bits_of
 bits_append [] b = refl
 bits_append (x ∷ a) b = ap (λ (l : List ℕ). to_bits binary64 x ∷ l) (bits_append a b)
-
--- i of k doubles are put, up to p
-pub record PuttingDoubles (before : List ℕ) (at : ℕ) (a : List Float) (k : ℕ) (now : List ℕ) (p i : ℕ) : Type 0 where
-  pub room : at + 10 * k ≤ length before
-  pub long : length now ≡ length before
-  pub count : i ≤ k
-  pub enough : k ≤ length a
-  pub near : p ≤ at + 10 * i
-  pub is : PutRow before at (bits_of (take i a)) now p
 
 pub doubles_start : (b : List ℕ) (at : ℕ) (a : List Float) (k : ℕ) → at + 10 * k ≤ length b → k ≤ length a → PuttingDoubles b at a k b at 0
 unfolding bits_of
@@ -139,12 +131,6 @@ module _ (a : List ℕ) (at : ℕ) {b : List ℕ} {p : ℕ} where
       record_put k x y z = row_both x (row_both y z)
 
 -- ---- a copy, byte by byte
-
-pub record Copying (before t now : List ℕ) (i : ℕ) : Type 0 where
-  pub room : length t ≤ length before
-  pub long : length now ≡ length before
-  pub count : i ≤ length t
-  pub is : Put before 0 (take i t) now i
 
 pub copy_starts : (before t : List ℕ) → length t ≤ length before → Copying before t before 0
 copy_starts before t h = record { room = h; long = refl; count = omega arith; is = put_nothing before 0 (omega arith) }

@@ -1,3 +1,9 @@
 -- What the contracts of `records` cite.
 pub mod Records
 pub mod Parts
+-- what proofs cite
+pub mod ReadLaws
+pub mod PartLaws
+pub mod WriteLaws
+-- what the promises cite
+pub mod RoundLaws

@@ -159,7 +159,7 @@ holds_both kind tolerances = cond (eqb kind 1) (eqb (to_bits binary64 tolerances
 abbrev pub recordable : Record → Bool
 recordable r = cond (holds_both r.kind r.tolerances) (fits record_layout (row_of r)) false
 
--- no record has more bytes: BackLaws `at-most-longest`
+-- no record has more bytes: `at_most_longest` of proofs/BackLaws
 abbrev pub longest_record : ℕ
 longest_record = 268
 

@@ -7,8 +7,8 @@ use Rattle.std.specs.Float.Ieee.{lt, fits}
 use Rattle.std.specs.Float.Ieee.Fits.{div-fits}
 use Rattle.doubles.proofs.Compare.{of_true}
 use Rattle.doubles.specs.Doubles.{same_sign}
-use Rattle.doubles.proofs.Number.{Double}
-use Rattle.doubles.proofs.Pairs.{In, Inside}
+use Rattle.doubles.specs.Number.{Double}
+use Rattle.doubles.specs.Pairs.{In, Inside}
 use Rattle.doubles.proofs.Signs.{same_symmetric, shared_replaced}
 use Rattle.numerical.specs.declared.Sample.{Sample}
 use Rattle.simple_convergency.specs.Stop.{turns_of}
@@ -16,10 +16,11 @@ use Rattle.simple_convergency.specs.declared.StopRule.{StopRule}
 use Rattle.searching.specs.Programs.{rising, oracle, Event, Prog, Turned}
 use Rattle.searching.specs.Histories.{steps_in}
 use Rattle.searching.specs.Reasons.{some_ends, by_value, by_width}
-use Rattle.searching.proofs.ReasonLaws.{Answered}
+use Rattle.searching.specs.ReasonLaws.{Answered}
 use Rattle.searching.specs.Brackets.{pairs_in, points_of, Fit, AtStarts, Bracket, Unpaired, Bracketing}
 use Rattle.searching.proofs.BracketLaws.{double_finite, between, answered_fit, ends_fit, unpaired_none, unpaired_going, unpaired_on, unpaired_narrows, unpaired_value, bracketed_ends, bracket_backed, bracket_in, bracket_narrows, bracket_on, bracket_pulled, bracket_going, bracket_next, bracket_found, bracket_value, bracket_no_candidate, bracket_limit}
-use Rattle.searching.proofs.Keeps.{Ends, After, ends_done, ends_log, ends_test, ends_stops, ends_offered, ends_pulled, ends_narrows, ends_searches}
+use Rattle.searching.specs.Keeps.{Ends, After}
+use Rattle.searching.proofs.Keeps.{ends_done, ends_log, ends_test, ends_stops, ends_offered, ends_pulled, ends_narrows, ends_searches}
 use Rattle.regula_falsi.specs.RegulaFalsi.{pair_of, second_at, first_at, ordered, opening, candidate_of, right_after, left_after, left_replaced, right_replaced, replaced_of, arrived, landed, pulled_in, turn_from, illinois_program}
 use Rattle.regula_falsi.specs.declared.End.{End}
 use Rattle.regula_falsi.specs.declared.Edge.{Edge}

@@ -14,7 +14,8 @@ use Rattle.searching.specs.Programs.{rising, oracle, play, tallied}
 use Rattle.searching.specs.Bounds.{Within, More}
 use Rattle.searching.proofs.BoundLaws.{within_done, within_test, within_stops, within_ruled, within_pulled, within_value, within_offered, within_bracketed, within_narrows, within_less, within_searches, answer_within}
 use Rattle.searching.specs.Loops.{Turns, run_of}
-use Rattle.searching.proofs.LoopLaws.{opened_ended, opened_next, Shown, shown_end, shown_go, seen_once}
+use Rattle.searching.specs.Loops.{Shown, shown_end, shown_go}
+use Rattle.searching.proofs.LoopLaws.{opened_ended, opened_next, seen_once}
 use Rattle.regula_falsi.specs.RegulaFalsi.{second_at, first_at, ordered, opening, pair_of, arrived, landed, pulled_in, turn_from, illinois_program, regula_falsi, seen, elsewhere}
 use Rattle.regula_falsi.specs.declared.Illinois.{Illinois}
 use Rattle.regula_falsi.specs.declared.To.{To}

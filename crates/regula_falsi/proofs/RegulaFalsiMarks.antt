@@ -1,5 +1,5 @@
 -- The Illinois search only has marks 0 and 2, since each of its states keeps to what RegulaFalsiWeights says.
-use Rattle.std.specs.Prelude.{ℕ, suc, ◌≤◌, Bool, cond, ◌&&◌, List, [], ◌⊎◌, ◌≡◌, T, eqb, Float}
+use Rattle.std.specs.Prelude.{ℕ, suc, ◌≤◌, Bool, cond, ◌&&◌, List, [], ◌≡◌, T, eqb, Float}
 use Rattle.std.proofs.Common.{arith, inr}
 use Rattle.std.proofs.Math.Bool.{true, false}
 use Rattle.std.proofs.Math.Logic.{inl}
@@ -7,7 +7,8 @@ use Rattle.std.proofs.Math.Path.{refl}
 use Rattle.std.specs.Float.Ieee.{lt}
 use Rattle.std.specs.Float.Ieee.Scale.{finite}
 use Rattle.doubles.specs.Doubles.{same_sign}
-use Rattle.doubles.proofs.Sizes.{at_least, product_tells}
+use Rattle.doubles.specs.Sizes.{at_least}
+use Rattle.doubles.proofs.Sizes.{product_tells}
 use Rattle.numerical.specs.Tallies.{mark_after}
 use Rattle.numerical.specs.declared.Answer.{Answer}
 use Rattle.numerical.specs.declared.Sample.{Sample}
@@ -16,17 +17,16 @@ use Rattle.simple_convergency.proofs.StopLaws.{not_found_size}
 use Rattle.simple_convergency.specs.declared.StopRule.{StopRule}
 use Rattle.searching.specs.Programs.{rising, differ, product_departs, oracle, Event, Prog, Turned}
 use Rattle.searching.specs.Histories.{mark_in}
-use Rattle.searching.proofs.Keeps.{Ends, After, ends_done, ends_log, ends_test, ends_stops, ends_value, ends_offered, ends_pulled, ends_bracketed, ends_narrows, ends_searches}
+use Rattle.searching.specs.Keeps.{Ends, After}
+use Rattle.searching.proofs.Keeps.{ends_done, ends_log, ends_test, ends_stops, ends_value, ends_offered, ends_pulled, ends_bracketed, ends_narrows, ends_searches}
 use Rattle.searching.proofs.ReasonLaws.{answered_finite}
 use Rattle.regula_falsi.specs.RegulaFalsi.{pair_of, second_at, first_at, ordered, opening, replaced_of, departs, arrived, landed, pulled_in, turn_from, illinois_program}
-use Rattle.regula_falsi.proofs.RegulaFalsiWeights.{Heavy, weighs_whole, replaced_heavy, never_departs}
+use Rattle.regula_falsi.specs.RegulaFalsiWeights.{Heavy}
+use Rattle.regula_falsi.proofs.RegulaFalsiWeights.{weighs_whole, replaced_heavy, never_departs}
 use Rattle.regula_falsi.specs.declared.Illinois.{Illinois}
+use Rattle.regula_falsi.specs.RegulaFalsiMarks.{ZeroOrTwo}
 
 -- ---- marks
-
--- the mark of a history is 0 or 2
-abbrev pub ZeroOrTwo : ℕ → Type 0
-ZeroOrTwo m = (m ≡ 0) ⊎ (m ≡ 2)
 
 -- rule 2 may depart, and rule 1 does not
 after_pull : (b : Bool) (m : ℕ) → ZeroOrTwo m → ZeroOrTwo (mark_after 2 b m)

@@ -13,9 +13,10 @@ use Rattle.searching.specs.Programs.{rising, found, oracle, Event, asked, Prog, 
 use Rattle.searching.specs.Brackets.{pairs_in}
 use Rattle.searching.specs.Events.{evaluations_in, candidates_in, evaluated_since, Tried, Sampled, Answered, lower_of, upper_of, PointsOf, PulledNow, Traced, Opening, Tracing}
 use Rattle.searching.proofs.EventLaws.{opening_none, opening_value, opening_stops, traced_early, tracing_newest, tracing_value, tracing_stops, tracing_candidate, tracing_ruled, tracing_narrows, traced_end, traced_bracketed}
-use Rattle.searching.proofs.Keeps.{Ends, After, ends_done, ends_test, ends_searches}
+use Rattle.searching.specs.Keeps.{Ends, After}
+use Rattle.searching.proofs.Keeps.{ends_done, ends_test, ends_searches}
 use Rattle.regula_falsi.specs.RegulaFalsi.{pair_of, replaced_of, second_at, first_at, ordered, opening, candidate_of, arrived, landed, pulled_in, turn_from, illinois_program}
-use Rattle.regula_falsi.proofs.RegulaFalsiEvents.{Follows, Gives}
+use Rattle.regula_falsi.specs.RegulaFalsiEvents.{Follows, Gives}
 use Rattle.regula_falsi.proofs.RegulaFalsiKeeps.{replaced_one}
 use Rattle.regula_falsi.specs.declared.Illinois.{Illinois}
 

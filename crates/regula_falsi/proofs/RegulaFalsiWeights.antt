@@ -6,8 +6,8 @@ use Rattle.std.proofs.Math.Path.{refl}
 use Rattle.std.specs.Float.{binary64}
 use Rattle.std.specs.Float.Ieee.{mul, of_bits}
 use Rattle.doubles.specs.Doubles.{above, same_sign}
-use Rattle.doubles.proofs.Products.{stands}
-use Rattle.doubles.proofs.Sizes.{at_least, half_size, half_stands, sided, same_sign_is, product_tells}
+use Rattle.doubles.specs.Sizes.{at_least}
+use Rattle.doubles.proofs.Sizes.{half_size, half_stands, sided, same_sign_is, product_tells}
 use Rattle.numerical.specs.declared.Sample.{Sample}
 use Rattle.simple_convergency.specs.Stop.{least_power, greatest_limit, turns_of}
 use Rattle.simple_convergency.specs.declared.StopRule.{StopRule}
@@ -17,22 +17,7 @@ use Rattle.regula_falsi.specs.declared.End.{End}
 use Rattle.regula_falsi.specs.declared.Edge.{Edge}
 use Rattle.regula_falsi.specs.declared.Edge.TheVariants.{EdgeX1, NoEdge, EdgeX2}
 use Rattle.regula_falsi.specs.declared.Illinois.{Illinois}
-
--- an end with n steps left: it weighs 2 ^ -leastPower, halved once a step at most, and its weight has its value's sign
-pub record Weighs (stop : StopRule) (n : ℕ) (e : End) : Type 0 where
-  pub power : ℕ
-  pub bound : power + n ≤ least_power + turns_of stop
-  pub size : T (at_least power e.weight)
-  pub side : Bool
-  pub weight_side : T (stands side e.weight)
-  pub value_side : T (stands side e.at.y)
-
--- a state with n steps left
-pub record Heavy (stop : StopRule) (n : ℕ) (s : Illinois) : Type 0 where
-  pub left_end : Weighs stop n s.left
-  pub right_end : Weighs stop n s.right
-  pub apart : same_sign s.left.at.y s.right.at.y ≡ false
-  pub within : n ≤ turns_of stop
+use Rattle.regula_falsi.specs.RegulaFalsiWeights.{Weighs, Heavy}
 
 module _ (stop : StopRule) (small : stop.limit ≤ greatest_limit) where
   few : turns_of stop ≤ greatest_limit

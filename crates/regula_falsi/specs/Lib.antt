@@ -1,2 +1,5 @@
--- What the contracts of `regula_falsi` cite, and what the laws of searches give for it.
+-- What the contracts of `regula_falsi` cite, what is promised of its history, and the words of its laws.
 pub mod RegulaFalsi
+pub mod RegulaFalsiEvents
+pub mod RegulaFalsiWeights
+pub mod RegulaFalsiMarks

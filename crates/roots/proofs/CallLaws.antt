@@ -8,7 +8,8 @@ use Rattle.std.specs.Float.Ieee.Scale.{finite}
 use Rattle.numerical.specs.Answers.{refused_at_once}
 use Rattle.numerical.specs.declared.Outcome.{Outcome}
 use Rattle.simple_convergency.specs.Stop.{greatest_limit, checked_of}
-use Rattle.simple_convergency.proofs.StopLaws.{Passed, passed}
+use Rattle.simple_convergency.specs.StopLaws.{Passed}
+use Rattle.simple_convergency.proofs.StopLaws.{passed}
 use Rattle.simple_convergency.specs.declared.StopRule.{StopRule}
 use Rattle.simple_convergency.specs.declared.Tolerances.{Tolerances}
 use Rattle.simple_convergency.specs.declared.Checked.{Checked}

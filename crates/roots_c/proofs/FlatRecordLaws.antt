@@ -25,16 +25,9 @@ use Rattle.roots_c.specs.Flat as flat
 use Rattle.roots_c.specs.FlatRecords.{answer_from, mark_from, outcome_from, record_from, refusal_of, bytes_in, verdict_for, left_for, flat_verdict, flat_bytes, points_of, words_of, read_refusal, read_coefficients, read_points, read_numbers, read_tallies, read_words}
 use Rattle.roots_c.specs.declared.Chosen.{Chosen}
 use Rattle.roots_c.specs.declared.Chosen.TheVariants.{Known, Unknown}
+use Rattle.roots_c.specs.FlatRecordLaws.{Copied}
 
 -- ---- the copy of the coefficients
-
--- i of them are copied
-pub record Copied (a own : List Float) (i : ℕ) : Type 0 where
-  pub long : length own ≡ 16
-  pub count : i ≤ 16
-  pub enough : i ≤ length a
-  pub front : take i own ≡ take i a
-  pub behind : drop i own ≡ drop i noughts
 
 pub copied_none : (a : List Float) → Copied a noughts 0
 copied_none a = record { long = refl; count = omega arith; enough = omega arith; front = refl; behind = refl }

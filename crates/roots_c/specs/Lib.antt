@@ -1,3 +1,5 @@
 -- What the contracts of `roots_c` cite.
 pub mod Flat
 pub mod FlatRecords
+-- what proofs cite
+pub mod FlatRecordLaws

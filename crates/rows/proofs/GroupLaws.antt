@@ -3,11 +3,9 @@ use Rattle.std.specs.Prelude.{ℕ, zero, suc, ◌+◌, ◌-◌, ◌*◌, ◌/◌
 use Rattle.std.proofs.Common.{pow-suc, arith, sym, ap, ◌∙◌, lt-ltb, le-ltb, ne_eqb, ltb-true, ltb-false}
 use Rattle.std.proofs.lemmas.Bool.{eqb-false}
 use Rattle.rows.specs.Groups.{groups_in, groups, Found, found, none, above, number_in, number_of}
+use Rattle.rows.specs.GroupLaws.{limit_in, Spelled}
 
 -- ---- the numbers that k groups more can hold
-
-abbrev pub limit_in : ℕ → ℕ
-limit_in k = 2 * 128 ^ k
 
 next_limit : (k : ℕ) → limit_in (suc k) ≡ 128 * limit_in k
 next_limit k = rw (pow-suc 128 k) (omega arith)
@@ -76,10 +74,6 @@ above_inv g (found m u) n t h = go (eqb m 0) refl h
     go : (b : Bool) → eqb m 0 ≡ b → cond b none (found (g + 128 * m) u) ≡ found n t → (m' : ℕ) × (found m u ≡ found m' t) × (0 < m') × (n ≡ g + 128 * m')
     go true e q = absurd (let z : ◌≡◌ {A = ℕ} 0 1 = cc in omega arith)
     go false e q = (m, cc, (let f = eqb-false m 0 e in omega arith), cc)
-
-pub record Spelled (k : ℕ) (s : List ℕ) (n : ℕ) (t : List ℕ) : Type 0 where
-  pub holds : n < limit_in k
-  pub is : s ≡ groups_in k n ++ t
 
 -- none is no number
 none_found : {A : Type 0} {n : ℕ} {t : List ℕ} → none ≡ found n t → A

@@ -8,6 +8,7 @@ use Rattle.rows.specs.Groups.{groups, Found, found, none, number_of}
 use Rattle.rows.proofs.GroupLaws.{number_back, number_fits, number_spelled}
 use Rattle.rows.specs.Layouts.{Layout, end, number, spell, fits, Read, held, wrong, only, first, read, Row, at_end, and_then, TookNumber, NoNumber, Goes, Fails}
 use Rattle.rows.specs.Puts.{Small}
+use Rattle.rows.specs.LayoutLaws.{Written}
 
 -- ---- tests
 
@@ -47,11 +48,6 @@ module _ {A : Type 0} where
       rw (append_assoc (groups n) (spell row) t, number_back n (spell row ++ t) (ltb-true n (2 ^ 64) small), right) (row_back later t)
 
   -- ---- what reads was written so
-
-  pub record Written (a : Layout A) (s : List ℕ) (x : A) (t : List ℕ) : Type 0 where
-    pub numbers : List ℕ
-    pub row : Row a numbers x
-    pub is : s ≡ spell numbers ++ t
 
   module _ (ok : ℕ → Bool) (next : ℕ → Layout A) (s : List ℕ) (x : A) (t : List ℕ) (later : (n : ℕ) (u : List ℕ) → read (next n) u ≡ held x t → Written (next n) u x t) where
     tested : (n : ℕ) (u : List ℕ) → number_of s ≡ found n u → (b : Bool) → ok n ≡ b → first (λ (n : ℕ). read (next n)) (cond b (found n u) none) ≡ held x t → Written (number ok next) s x t

@@ -3,10 +3,12 @@ use Rattle.std.specs.Prelude.{ℕ, zero, suc, ◌+◌, ◌/◌, ◌%◌, ◌^◌
 use Rattle.std.proofs.Common.{add-one, arith, append_assoc, append-nil, sym, ap, ◌∙◌, length-set, length-append, length-drop, take-append-drop, length-take-le, take_at, drop_at, drop-drop}
 use Rattle.std.proofs.lemmas.List.{set_split}
 use Rattle.rows.specs.Groups.{groups_in, groups}
-use Rattle.rows.proofs.GroupLaws.{limit_in, groups_last, groups_on, shorter, ten_at_most}
+use Rattle.rows.specs.GroupLaws.{limit_in}
+use Rattle.rows.proofs.GroupLaws.{groups_last, groups_on, shorter, ten_at_most}
 use Rattle.rows.specs.Layouts.{spell}
 use Rattle.rows.proofs.LayoutLaws.{spell_append, small_append}
 use Rattle.rows.specs.Puts.{Put, PutRow}
+use Rattle.rows.specs.PutLaws.{Putting}
 
 -- ---- bytes
 
@@ -56,16 +58,6 @@ module _ {a b : List ℕ} {at p : ℕ} {t : List ℕ} (x : Put a at t b p) where
         }
 
 -- ---- a number
-
--- the groups that stand, and those that m still makes
-pub record Putting (before : List ℕ) (at n : ℕ) (now : List ℕ) (m p : ℕ) : Type 0 where
-  pub done : List ℕ
-  pub left : ℕ
-  pub room : at + 10 ≤ length before
-  pub count : p + left ≡ at + 9
-  pub holds : m < limit_in left
-  pub is : groups n ≡ done ++ groups_in left m
-  pub put : Put before at done now p
 
 pub put_starts : (a : List ℕ) (at n : ℕ) → at + 10 ≤ length a → n < 2 ^ 64 → Putting a at n a n at
 unfolding groups

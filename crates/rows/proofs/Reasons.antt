@@ -1,17 +1,9 @@
 -- Why bytes are no number: they end early, have an eleventh group, pass 64 bits, or have a needless last group.
-use Rattle.std.specs.Prelude.{ℕ, zero, suc, ◌-◌, ◌+◌, ◌*◌, ◌≤◌, ◌<◌, Bool, true, false, cond, List, [], ◌∷◌, ◌++◌, ◌≡◌, refl, ltb, eqb}
+use Rattle.std.specs.Prelude.{ℕ, zero, suc, ◌-◌, ◌+◌, ◌*◌, ◌≤◌, Bool, true, false, cond, List, [], ◌∷◌, ◌++◌, ◌≡◌, refl, ltb, eqb}
 use Rattle.std.proofs.Common.{arith, ap, ◌∙◌, le-ltb, ltb-true, ltb-false, eqb-true}
 use Rattle.rows.specs.Groups.{groups_in, Found, found, none, above, number_in, number_of}
 use Rattle.rows.proofs.GroupLaws.{one_spelling}
-
--- with up to k groups more
-pub data Broken : ℕ → List ℕ → Type 0 where
-  ends_early : {k : ℕ} → Broken k []
-  eleventh : {b : ℕ} {s : List ℕ} → 128 ≤ b → Broken 0 (b ∷ s)
-  passes : {b : ℕ} {s : List ℕ} → 2 ≤ b → b < 128 → Broken 0 (b ∷ s)
-  needless : {k b : ℕ} {s : List ℕ} → 128 ≤ b → Broken (suc k) (b ∷ 0 ∷ s)
-  no_byte : {k b : ℕ} {s : List ℕ} → 256 ≤ b → Broken (suc k) (b ∷ s)
-  later : {k b : ℕ} {s : List ℕ} → 128 ≤ b → Broken k s → Broken (suc k) (b ∷ s)
+use Rattle.rows.specs.Reasons.{Broken, ends_early, eleventh, passes, needless, no_byte, later}
 
 -- ---- each is a reason
 

@@ -8,6 +8,7 @@ use Rattle.rows.specs.Groups.{Found, found, none, above, number_in, number_of, T
 use Rattle.rows.proofs.GroupLaws.{number_last, number_on}
 use Rattle.rows.specs.declared.Taken.{Taken}
 use Rattle.rows.specs.declared.Taken.TheVariants.{Is, Wrong}
+use Rattle.rows.specs.TakeLaws.{Taking}
 
 -- ---- one byte
 
@@ -43,14 +44,6 @@ module _ (s : List ℕ) (at : ℕ) where
     take_small l = record { within = omega arith; is = rw (off s at h, ← e) (number_last 8 b (drop (at + 1) s) l) }
 
 -- ---- i groups are read, and p is where they end
-
-pub record Taking (s : List ℕ) (at v w p i : ℕ) : Type 0 where
-  pub some : 0 < i
-  pub count : i ≤ 9
-  pub within : p ≤ length s
-  pub weight : w ≡ 128 ^ i
-  pub low : v < w
-  pub is : number_of (drop at s) ≡ above v w (number_in (9 - i) (drop p s))
 
 pub take_starts : (s : List ℕ) (at : ℕ) → at < length s → {b : ℕ} → b ≡ get_or s at 0 → 128 ≤ b → b < 256 → Taking s at (b - 128) 128 (at + 1) 1
 unfolding number_of

@@ -31,6 +31,8 @@ more_less a h k l =
     let av = a.values in let ad = a.derivatives in let as2 = a.steps in
     record { values = omega arith; derivatives = omega arith; steps = omega arith }
 
+-- ---- the words
+
 module _ {v d s : ℕ} {A : Type 0} where
   pub within_done : {a : A} → Within v d s (done a)
   unfolding play
@@ -119,6 +121,8 @@ within_searches v d s v2 d2 s2 m {turns = turns} {turn = turn} o t h =
 pub answer_within : {v d s : ℕ} {g : Prog Answer} (a : List Float) → Within v d s g → More v d s fresh (answer_of a g).progress
 unfolding answer_of
 answer_within a w = w.most (oracle a) fresh
+
+-- ---- room for what a program counts
 
 pub within_room : {v d s : ℕ} {A : Type 0} {g : Prog A} {j k : ℕ} {p : Progress} (o : Oracle) → Within v d s g → v ≤ 3 → d ≤ 3 → s ≤ 3 → k + 3 ≤ j → Room j p → Room k (play tallied o g p).1
 within_room {p = p} o w hv hd hs h r =

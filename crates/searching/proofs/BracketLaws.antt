@@ -8,9 +8,10 @@ use Rattle.std.specs.Float.Ieee.Scale.{finite}
 use Rattle.doubles.specs.Compare.{Num}
 use Rattle.doubles.proofs.Compare.{finite_num}
 use Rattle.doubles.specs.Doubles.{same_sign, pulled}
-use Rattle.doubles.proofs.Number.{Double}
+use Rattle.doubles.specs.Number.{Double}
 use Rattle.doubles.proofs.Signs.{same_symmetric}
-use Rattle.doubles.proofs.Pairs.{In, Inside, Nested, in_trans, end_in, pulled_inside, pulled_one}
+use Rattle.doubles.specs.Pairs.{In, Inside, Nested}
+use Rattle.doubles.proofs.Pairs.{in_trans, end_in, pulled_inside, pulled_one}
 use Rattle.numerical.specs.declared.Answer.TheVariants.{ByValue, Refused}
 use Rattle.numerical.specs.declared.Interval.{Interval}
 use Rattle.numerical.specs.declared.Sample.{Sample}
@@ -20,9 +21,11 @@ use Rattle.polynom.specs.Polynom.{value}
 use Rattle.polynom.specs.declared.Evaluated.TheVariants.{At}
 use Rattle.searching.specs.Programs.{found, alike, tested, candidate, ruled, paired, stepped, product_departs, Turned, Prog, value_at, bracketed, oracle, Event, asked, noted}
 use Rattle.searching.specs.Histories.{steps_in}
-use Rattle.searching.proofs.Keeps.{Ends, After, ends_value, ends_bracketed}
+use Rattle.searching.specs.Keeps.{Ends, After}
+use Rattle.searching.proofs.Keeps.{ends_value, ends_bracketed}
 use Rattle.searching.specs.Reasons.{some_ends, True, Going, Reason, by_value, of_signs, of_value, of_candidate}
-use Rattle.searching.proofs.ReasonLaws.{Answered, answered, not_answered, standing_on, standing_next, standing_going, standing_limit}
+use Rattle.searching.specs.ReasonLaws.{Answered}
+use Rattle.searching.proofs.ReasonLaws.{answered, not_answered, standing_on, standing_next, standing_going, standing_limit}
 use Rattle.searching.specs.Brackets.{pairs_in, points_of, Backed, Fit, AtStarts, Narrows, no_pair, first_pair, next_pair, Told, Bracket, Unpaired, Bracketing}
 
 -- ---- points, samples and pairs

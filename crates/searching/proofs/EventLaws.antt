@@ -21,26 +21,9 @@ use Rattle.searching.specs.Programs.{Test, found, converged, flat, alike, tested
 use Rattle.searching.specs.Histories.{values_in, steps_in, mark_in}
 use Rattle.searching.specs.Brackets.{pairs_in}
 use Rattle.searching.specs.Events.{signs_missed, evaluations_in, evaluated_since, Newest, Each, Width, BeforePairs, Traced, Opening, Tracing}
-use Rattle.searching.proofs.Keeps.{Ends, After, ends_log, ends_stops, ends_value, ends_both, ends_offered, ends_pulled, ends_bracketed, ends_narrows}
-
--- an event that is no pair, no step and no sign test
-abbrev pub plain : Event → Bool
-plain (asked x e) = true
-plain (asked_both x e) = true
-plain (noted (tested (found p) held)) = true
-plain (noted (tested (converged p q) held)) = true
-plain (noted (tested (flat y) held)) = true
-plain (noted (tested (alike p q) held)) = false
-plain (noted (candidate x)) = true
-plain (noted (ruled rule departed)) = true
-plain (noted (paired i)) = false
-plain (noted stepped) = false
-
--- it leaves pairs, steps and the sign test as they are
-pub record Same (h h2 : List Event) : Type 0 where
-  pub pairs : pairs_in h2 ≡ pairs_in h
-  pub steps : steps_in h2 ≡ steps_in h
-  pub signs : signs_missed h2 ≡ signs_missed h
+use Rattle.searching.specs.Keeps.{Ends, After}
+use Rattle.searching.proofs.Keeps.{ends_log, ends_stops, ends_value, ends_both, ends_offered, ends_pulled, ends_bracketed, ends_narrows}
+use Rattle.searching.specs.EventLaws.{plain, Same}
 
 plain_same : (e : Event) (h : List Event) → plain e ≡ true → Same h (e ∷ h)
 unfolding pairs_in steps_in signs_missed

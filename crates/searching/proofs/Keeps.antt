@@ -20,10 +20,7 @@ use Rattle.polynom.specs.declared.EvaluatedBoth.TheVariants.{Both, NotBothFinite
 use Rattle.searching.specs.Programs.{Test, holds, alike, Note, tested, candidate, ruled, paired, stepped, Prog, done, log, Turned, ended, next, bind, test, stops, sampled, sampled_both, value_at, both_at, offered, pulled_into, product_departs, bracketed, steps_to, narrows_to, run, searches, Oracle, Event, asked, asked_both, noted, play, tallied}
 use Rattle.searching.specs.Histories.{listed}
 use Rattle.searching.proofs.ProgramLaws.{play_bind, play_end}
-
--- played from the history h on, the program g ends where Q holds
-pub record Ends {A : Type 0} (o : Oracle) (Q : A → List Event → Type 0) (g : Prog A) (h : List Event) : Type 0 where
-  pub there : Q (play listed o g h).0 (play listed o g h).1
+use Rattle.searching.specs.Keeps.{Ends, After}
 
 module _ {A : Type 0} {o : Oracle} {Q : A → List Event → Type 0} {h : List Event} where
   pub ends_done : {a : A} → Q a h → Ends o Q (done a) h
@@ -108,11 +105,6 @@ module _ {S : Type 0} {o : Oracle} {Q : Turned S → List Event → Type 0} {h :
   ends_narrows s pair q = record { there = q }
 
 -- ---- whole searches
-
--- an end is where Post holds, and a state is where Inv does
-abbrev pub After : {S : Type 0} → (S → List Event → Type 0) → (Answer → List Event → Type 0) → Turned S → List Event → Type 0
-After Inv Post (ended a) h = Post a h
-After Inv Post (next s) h = Inv s h
 
 -- the book of tallies ends where the list does
 pub ends_tallied : {A : Type 0} {o : Oracle} {Q : A → List Event → Type 0} {g : Prog A} {h : List Event} (p : Progress) → Ends o Q g h → Q (play tallied o g p).0 (play listed o g h).1

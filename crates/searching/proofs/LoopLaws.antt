@@ -18,6 +18,7 @@ use Rattle.searching.proofs.ProgramLaws.{play_bind, run_ended}
 use Rattle.searching.specs.Bounds.{Within}
 use Rattle.searching.proofs.BoundLaws.{within_room}
 use Rattle.searching.specs.Loops.{Turns, run_of, Ample}
+use Rattle.searching.specs.Loops.{Shown, shown_end, shown_go}
 
 -- after an opening there is room for all turns
 pub opened_room :
@@ -100,11 +101,6 @@ ended_once e = cc
 
 next_once : {S : Type 0} {s t : S} → ◌≡◌ {A = Turned S} (next s) (next t) → s ≡ t
 next_once e = cc
-
--- where the code's enum is an end or a state, what it stands for determines it: contracts by views fix their results
-pub data Shown {S T : Type 0} (m : Turns S T) (t : T) : Type 0 where
-  shown_end : (a : Answer) → t ≡ m.end a → Shown m t
-  shown_go : (s : S) → t ≡ m.go s → Shown m t
 
 module _ {S T : Type 0} (m : Turns S T) (shown : (t : T) → Shown m t) where
   pub seen_once : (x y : T) → m.seen x ≡ m.seen y → x ≡ y

@@ -14,14 +14,10 @@ use Rattle.polynom.specs.declared.Evaluated.TheVariants.{At, NotFinite}
 use Rattle.polynom.specs.declared.EvaluatedBoth.TheVariants.{Both, NotBothFinite}
 use Rattle.searching.specs.Programs.{stepped, Event, noted}
 use Rattle.searching.specs.Histories.{steps_in, mark_in}
-use Rattle.searching.specs.Reasons.{some_ends, True, Going, Reason, of_limit, Standing, Unmarked, Plain}
+use Rattle.searching.specs.Reasons.{some_ends, Going, Reason, of_limit, Standing, Unmarked, Plain}
+use Rattle.searching.specs.ReasonLaws.{Answered}
 
 -- ---- evaluations
-
--- a sample that was answered is at its point, and true
-pub record Answered (a : List Float) (x : Float) (p : Sample) : Type 0 where
-  pub at_point : p.x ≡ x
-  pub is_true : True a p
 
 module _ (a : List Float) (x : Float) where
   -- a sample that was answered is at its point

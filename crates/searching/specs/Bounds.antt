@@ -12,9 +12,3 @@ pub record More (v d s : ℕ) (p q : Progress) : Type 0 where
 -- at most v values, d derivatives and s steps, whoever answers
 pub record Within (v d s : ℕ) {A : Type 0} (g : Prog A) : Type 0 where
   pub most : (o : Oracle) (p : Progress) → More v d s p (play tallied o g p).1
-
--- ---- the words
-
--- ---- whole searches
-
--- ---- room for what a program counts

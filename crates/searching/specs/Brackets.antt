@@ -1,8 +1,8 @@
 -- What is promised of the pairs of a bracketing method, over its history. Definitions only.
 use Rattle.std.specs.Prelude.{ℕ, true, false, List, [], ◌∷◌, ◌⊎◌, ◌≡◌, Float}
 use Rattle.doubles.specs.Doubles.{same_sign}
-use Rattle.doubles.proofs.Number.{Double}
-use Rattle.doubles.proofs.Pairs.{Pair, Nested, Inside, In}
+use Rattle.doubles.specs.Number.{Double}
+use Rattle.doubles.specs.Pairs.{Pair, Nested, Inside, In}
 use Rattle.numerical.specs.declared.Answer.{Answer}
 use Rattle.numerical.specs.declared.Answer.TheVariants.{ByValue, ByWidth, Refused}
 use Rattle.numerical.specs.declared.Interval.{Interval}

@@ -1,4 +1,4 @@
--- The search of every method: what its opening came to, and its loop. After n turns the code stands at a state s, and what is left of the run gives the whole answer.
+-- The loop of every method, as its laws speak of it: its turns, what a number of them comes to, and the room that they need. Definitions only.
 use Prim.Native.Nat.{ℕ, ◌*◌}
 use Rattle.std.specs.Prelude.{List, ◌≡◌, Float}
 use Rattle.numerical.specs.Answers.{outcome}
@@ -27,3 +27,8 @@ run_of cs turn n s p = outcome (play tallied (oracle cs) (run turn n (next s)) p
 -- room for as many turns as a limit allows: a turn adds at most three to a tally
 abbrev pub Ample : Progress → Type 0
 Ample p = Room (3 * greatest_limit) p
+
+-- where the code's enum is an end or a state, what it stands for determines it: contracts by views fix their results
+pub data Shown {S T : Type 0} (m : Turns S T) (t : T) : Type 0 where
+  shown_end : (a : Answer) → t ≡ m.end a → Shown m t
+  shown_go : (s : S) → t ≡ m.go s → Shown m t

@@ -1,4 +1,4 @@
-// The language of searches has definitions and laws, in specs/. The functions are the two added rules that several methods follow.
+// The language of searches is in specs/, and its laws are in proofs/. The functions are the two added rules that several methods follow.
 
 #![tactic(auto)]
 

@@ -10,7 +10,8 @@ use Rattle.simple_convergency.specs.Stop.{turns_of}
 use Rattle.simple_convergency.specs.declared.StopRule.{StopRule}
 use Rattle.searching.specs.Programs.{oracle, Event, Prog, Turned}
 use Rattle.searching.specs.Histories.{steps_in, mark_in}
-use Rattle.searching.proofs.Keeps.{Ends, After, ends_done, ends_stops, ends_value, ends_offered, ends_steps, ends_searches}
+use Rattle.searching.specs.Keeps.{Ends, After}
+use Rattle.searching.proofs.Keeps.{ends_done, ends_stops, ends_value, ends_offered, ends_steps, ends_searches}
 use Rattle.searching.specs.Reasons.{some_ends, True, difference_of, Going, Unmarked, Plain, by_value, by_width, of_flatness, of_value, of_candidate}
 use Rattle.searching.proofs.ReasonLaws.{answered, not_answered, plain_on, plain_next, plain_going, plain_first, plain_limit_lem}
 use Rattle.secant.specs.Secant.{second_at, first_at, opening, arrived, landed, turn_from, secant_program}

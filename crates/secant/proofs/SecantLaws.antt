@@ -13,7 +13,8 @@ use Rattle.searching.specs.Programs.{oracle, play, tallied}
 use Rattle.searching.specs.Bounds.{Within, More}
 use Rattle.searching.proofs.BoundLaws.{within_done, within_stops, within_value, within_offered, within_steps, within_less, within_searches, answer_within}
 use Rattle.searching.specs.Loops.{Turns, run_of}
-use Rattle.searching.proofs.LoopLaws.{opened_ended, opened_next, Shown, shown_end, shown_go, seen_once}
+use Rattle.searching.specs.Loops.{Shown, shown_end, shown_go}
+use Rattle.searching.proofs.LoopLaws.{opened_ended, opened_next, seen_once}
 use Rattle.secant.specs.Secant.{second_at, first_at, opening, arrived, landed, turn_from, secant_program, secant, seen}
 use Rattle.secant.specs.declared.Secant.{Secant}
 use Rattle.secant.specs.declared.To.{To}

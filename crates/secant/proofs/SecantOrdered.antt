@@ -5,9 +5,10 @@ use Rattle.simple_convergency.specs.Stop.{turns_of}
 use Rattle.simple_convergency.specs.declared.StopRule.{StopRule}
 use Rattle.searching.specs.Programs.{oracle, Event}
 use Rattle.searching.specs.Events.{evaluations_in, candidates_in, evaluated_since, Ordered}
-use Rattle.searching.proofs.Keeps.{Ends, ends_done, ends_stops, ends_offered, ends_searches}
+use Rattle.searching.specs.Keeps.{Ends}
+use Rattle.searching.proofs.Keeps.{ends_done, ends_stops, ends_offered, ends_searches}
 use Rattle.secant.specs.Secant.{turn_from, secant_program}
-use Rattle.secant.proofs.SecantEvents.{Follows, Gives}
+use Rattle.secant.specs.SecantEvents.{Follows, Gives}
 use Rattle.secant.specs.declared.Secant.{Secant}
 use Rattle.secant.proofs.SecantTraces.{Inv, Reaches, traces_opening, traces_landed}
 

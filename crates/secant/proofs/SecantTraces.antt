@@ -7,9 +7,10 @@ use Rattle.polynom.specs.declared.Evaluated.TheVariants.{At}
 use Rattle.simple_convergency.specs.declared.StopRule.{StopRule}
 use Rattle.searching.specs.Programs.{oracle, Event, asked, Prog, Turned}
 use Rattle.searching.specs.Events.{evaluations_in, candidates_in, evaluated_since, Untried, Tried, SampledTwo, LastPoint, Each, Ordered}
-use Rattle.searching.proofs.Keeps.{Ends, After, ends_done, ends_stops, ends_value, ends_steps}
+use Rattle.searching.specs.Keeps.{Ends, After}
+use Rattle.searching.proofs.Keeps.{ends_done, ends_stops, ends_value, ends_steps}
 use Rattle.secant.specs.Secant.{second_at, first_at, opening, arrived, landed}
-use Rattle.secant.proofs.SecantEvents.{Follows, Gives}
+use Rattle.secant.specs.SecantEvents.{Follows, Gives}
 use Rattle.secant.specs.declared.Secant.{Secant}
 
 module _ (a : List Float) (stop : StopRule) (first second : Float) where

@@ -1,2 +1,3 @@
--- What the contracts of `secant` cite, and what the laws of searches give for it.
+-- What the contracts of `secant` cite, and what is promised of its history.
 pub mod Secant
+pub mod SecantEvents

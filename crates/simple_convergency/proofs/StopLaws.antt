@@ -8,22 +8,19 @@ use Rattle.std.specs.Float.Ieee.Scale.{finite}
 use borrow.Author.Tests.{lt-ltb, le-ltb, ltb-false}
 use Rattle.doubles.proofs.Compare.{of_true, finite_num, lt_le_trans, no_lt_le}
 use Rattle.doubles.specs.Doubles.{nought, absolute, above}
-use Rattle.doubles.proofs.Sizes.{at_least, not_small}
+use Rattle.doubles.specs.Sizes.{at_least}
+use Rattle.doubles.proofs.Sizes.{not_small}
 use Rattle.simple_convergency.specs.Stop.{least_tolerance, least_power, greatest_limit, bad_tolerance, either_bad, checked_of, found_at}
 use Rattle.simple_convergency.specs.declared.StopRule.{StopRule}
 use Rattle.simple_convergency.specs.declared.Tolerances.{Tolerances}
 use Rattle.simple_convergency.specs.declared.Checked.{Checked}
 use Rattle.simple_convergency.specs.declared.Checked.TheVariants.{Rule, Refused}
+use Rattle.simple_convergency.specs.StopLaws.{Good, Passed}
 
 -- the least tolerance is 1 * 2 ^ -300
 pub least_tolerance_value : least_tolerance ≡ fin false 1 (negsuc (least_power - 1))
 unfolding of_bits
 least_tolerance_value = refl
-
--- where neither is bad, each is good
-pub record Good (tolerances : Tolerances) : Type 0 where
-  pub of_values : bad_tolerance tolerances.value ≡ false
-  pub of_points : bad_tolerance tolerances.point ≡ false
 
 pub both_good : (tolerances : Tolerances) → either_bad tolerances ≡ false → Good tolerances
 unfolding either_bad
@@ -68,13 +65,6 @@ module _ (t : Tolerances) (limit : ℕ) {r : Checked} where
     pub rule_given : limit ≤ greatest_limit → r ≡ Rule (record { tolerances = t; limit = limit }) → r ≡ checked_of t limit
     unfolding checked_of
     rule_given h k = rw (none_bad t v x p y, le-ltb greatest_limit limit h) k
-
--- a rule that passed the check: the numbers are those given, the tolerances are finite and not below the least, the limit is in range
-pub record Passed (tolerances : Tolerances) (limit : ℕ) (stop : StopRule) : Type 0 where
-  pub same_tolerances : stop.tolerances ≡ tolerances
-  pub same_limit : stop.limit ≡ limit
-  pub good : Good tolerances
-  pub in_range : limit ≤ greatest_limit
 
 pub passed : (tolerances : Tolerances) (limit : ℕ) (stop : StopRule) → checked_of tolerances limit ≡ Rule stop → Passed tolerances limit stop
 unfolding checked_of

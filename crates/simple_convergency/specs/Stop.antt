@@ -13,7 +13,7 @@ use Rattle.simple_convergency.specs.declared.Checked.TheVariants.{Rule, Refused}
 abbrev pub least_tolerance : Float
 least_tolerance = of_bits binary64 0x2d30_0000_0000_0000
 
--- the least tolerance is 2 ^ -leastPower
+-- the least tolerance is 2 ^ -least_power
 abbrev pub least_power : ℕ
 least_power = 300
 

@@ -10,7 +10,8 @@ use lib.Ieee.Fits.{and_l, and_r}
 use lib.Ieee.Scale.{finite}
 use Rattle.doubles.specs.Doubles.{order_of, of_order}
 use Rattle.doubles.proofs.Compare.{of_true}
-use Rattle.doubles.proofs.Number.{Double, largest, finite_compared, eq_order, of_order_order}
+use Rattle.doubles.specs.Number.{Double, largest}
+use Rattle.doubles.proofs.Number.{finite_compared, eq_order, of_order_order}
 use Rattle.doubles.proofs.is_finite.Goals as goal
 
 -- what a double can be

@@ -15,7 +15,8 @@ use mir.Facts.{to_z-of_z}
 use borrow.Author.Rules.{sfits_of}
 use borrow.Author.Tests.{leb-true, leb-false, ltb-true, le-ltb}
 use Rattle.doubles.specs.Doubles.{nought, pattern_of, of_order}
-use Rattle.doubles.proofs.Number.{bound, low_no_nan, of_order_is}
+use Rattle.doubles.specs.Number.{bound}
+use Rattle.doubles.proofs.Number.{low_no_nan, of_order_is}
 use Rattle.doubles.proofs.of_order.Goals as goal
 
 -- z as the machine reads it back

@@ -1,4 +1,4 @@
-use Rattle.records.proofs.WriteLaws.{Copying}
+use Rattle.records.specs.WriteLaws.{Copying}
 use Prim.Native.Nat.{◌-◌}
 use lib.ListN.{length}
 use Rattle.records.proofs.copy.Given as goal

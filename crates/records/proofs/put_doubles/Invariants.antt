@@ -1,4 +1,4 @@
-use Rattle.records.proofs.WriteLaws.{PuttingDoubles}
+use Rattle.records.specs.WriteLaws.{PuttingDoubles}
 use Prim.Native.Nat.{◌-◌}
 use Rattle.records.proofs.put_doubles.Given as goal
 

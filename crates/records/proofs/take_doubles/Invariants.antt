@@ -1,7 +1,7 @@
 use mathlib.Core.Path.{◌≡◌}
 use Prim.Native.Nat.{◌-◌}
 use lib.ListN.{length}
-use Rattle.records.proofs.ReadLaws.{Filling}
+use Rattle.records.specs.ReadLaws.{Filling}
 use Rattle.records.proofs.take_doubles.Given as goal
 
 abbrev pub invariant-loop-i : goal.invariant-loop-i

@@ -1,4 +1,4 @@
-use Rattle.roots_c.proofs.FlatRecordLaws.{Copied}
+use Rattle.roots_c.specs.FlatRecordLaws.{Copied}
 use Prim.Native.Nat.{◌-◌}
 use Rattle.roots_c.proofs.copied.Given as goal
 

@@ -1,4 +1,4 @@
-use Rattle.rows.proofs.PutLaws.{Putting}
+use Rattle.rows.specs.PutLaws.{Putting}
 use Rattle.rows.proofs.put.Given as goal
 
 abbrev pub invariant-loop-m : goal.invariant-loop-m

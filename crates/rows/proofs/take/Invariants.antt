@@ -1,5 +1,5 @@
 use Prim.Native.Nat.{◌-◌}
-use Rattle.rows.proofs.TakeLaws.{Taking}
+use Rattle.rows.specs.TakeLaws.{Taking}
 use Rattle.rows.proofs.take.Given as goal
 
 abbrev pub invariant-loop-i : goal.invariant-loop-i
