@@ -2,16 +2,9 @@
 use Rattle.std.specs.Prelude.{ℕ, suc, ◌+◌, ◌-◌, ◌≤◌, ◌<◌, min, Bool, true, false, List, ◌++◌, ◌≡◌, refl, ltb, length, take, drop, get_or, set}
 use Rattle.std.proofs.Common.{add-one, arith, sym, ap, ◌∙◌, length-set, length-drop, length-take, take-append-drop, drop-drop, drop-set-lt, take-suc-set, take-suc, get_or-drop, take_all, ltb-true, ltb-false}
 use Rattle.blocks.specs.Blocks.{part_of, part_length}
+use Rattle.blocks.specs.BlockLaws.{Moving}
 
 -- ---- byte by byte
-
--- i bytes are moved, and those behind them are as they were
-pub record Moving (before : List ℕ) (from n : ℕ) (now : List ℕ) (i : ℕ) : Type 0 where
-  pub room : from + n ≤ length before
-  pub long : length now ≡ length before
-  pub count : i ≤ n
-  pub front : take i now ≡ take i (drop from before)
-  pub behind : drop i now ≡ drop i before
 
 pub move_starts : (before : List ℕ) (from n : ℕ) → from + n ≤ length before → Moving before from n before 0
 move_starts before from n h = record { room = h; long = refl; count = omega arith; front = refl; behind = refl }

@@ -2,7 +2,7 @@
 use Rattle.std.specs.Prelude.{ℕ, ◌+◌, ◌-◌, ◌≤◌, ◌<◌, List, [], ◌∷◌, ◌++◌, ◌≡◌, refl, length, drop}
 use Rattle.std.proofs.Common.{add_assoc, add-zero, arith, ap, sym, ◌∙◌, subst, length-drop, length-append, drop-drop}
 use Rattle.std.proofs.lemmas.List.{drop-append-le}
-use Rattle.records.specs.Records.{longest_record, bytes_of, reading_of}
+use Rattle.records.specs.Records.{bytes_of, reading_of}
 use Rattle.records.proofs.PrefixLaws.{bytes_hold, record_stays, refusal_stays}
 use Rattle.records.proofs.ReadingLaws.{read_within}
 use Rattle.records.specs.declared.Record.{Record}
@@ -15,14 +15,9 @@ use Rattle.playback.specs.declared.Comparison.TheVariants.{Same, Differs}
 use Rattle.playback.specs.declared.Field.{Field}
 use Rattle.playback.specs.declared.Playback.{Playback}
 use Rattle.playback.specs.declared.Playback.TheVariants as playback
+use Rattle.playback.specs.AheadLaws.{shifted, Ahead}
 
 -- ---- behind other records
-
--- `count` records of `offset` bytes stand before
-abbrev pub shifted : ℕ → ℕ → Playback → Playback
-shifted count offset (playback.Agree n) = playback.Agree (count + n)
-shifted count offset (playback.Differs n at f x y) = playback.Differs (count + n) (offset + at) f x y
-shifted count offset (playback.Refused k n at) = playback.Refused k (count + n) (offset + at)
 
 shift_over : (c o d p : ℕ) (rs : List Record) (b : List ℕ) → verdict_over (c + d) (o + p) rs b ≡ shifted c o (verdict_over d p rs b)
 shift_over c o d p [] [] = refl
@@ -40,16 +35,6 @@ unfolding played_from
 played_shifted count offset s = rw (add-zero count, add-zero offset) at (shift_over count offset 0 0 (series_in s).records (series_in s).behind)
 
 -- ---- with more bytes behind
-
--- behind c records of o bytes: whatever u follows, all of s agreed and u is next; the record that differs stays; and where a record was refused, it is played again
--- with what follows, unless as many bytes as the longest record has were at hand
-abbrev pub Ahead : ℕ → ℕ → List ℕ → Playback → Type 0
-Ahead c o s (playback.Agree n) = (n ≤ c + length s) × ((u : List ℕ) → played_from c o (s ++ u) ≡ played_from n (o + length s) u)
-Ahead c o s (playback.Differs n at f x y) = (n ≤ c + length s) × (at ≤ o + length s) × ((u : List ℕ) → played_from c o (s ++ u) ≡ playback.Differs n at f x y)
-Ahead c o s (playback.Refused k n at) =
-    (n ≤ c + length s) × (o ≤ at) × (at < o + length s)
-    × ((u : List ℕ) → played_from c o (s ++ u) ≡ played_from n at (drop (at - o) s ++ u))
-    × (longest_record ≤ length s - (at - o) → (u : List ℕ) → played_from c o (s ++ u) ≡ playback.Refused k n at)
 
 module _ (c o : ℕ) (s : List ℕ) where
   ahead_none : length s ≤ 0 → Ahead c o s (played_from c o s)

@@ -14,7 +14,8 @@ use Rattle.numerical.specs.declared.Outcome.{Outcome}
 use Rattle.simple_convergency.specs.Stop.{most_coefficients}
 use Rattle.records.specs.Records.{bits_of, reading_of}
 use Rattle.records.proofs.PrefixLaws.{bytes_hold}
-use Rattle.records.proofs.ReadingLaws.{tail, tail_is, read_length, read_within, read_few}
+use Rattle.records.specs.ReadingLaws.{tail}
+use Rattle.records.proofs.ReadingLaws.{tail_is, read_length, read_within, read_few}
 use Rattle.records.specs.declared.Record.{Record}
 use Rattle.records.specs.declared.Reading.{Reading}
 use Rattle.records.specs.declared.Verdict.{Verdict}
@@ -26,6 +27,7 @@ use Rattle.playback.specs.declared.Comparison.{Comparison}
 use Rattle.playback.specs.declared.Comparison.TheVariants.{Same, Differs}
 use Rattle.playback.specs.declared.Playback.{Playback}
 use Rattle.playback.specs.declared.Playback.TheVariants as playback
+use Rattle.playback.specs.PlaybackLaws.{Comparing, Playing}
 
 -- ---- field by field
 
@@ -72,11 +74,6 @@ fields_are o a b d = rw (a, b, d) (three o.answer)
     three (ByValue root y) = refl
     three (ByWidth root p q) = refl
     three (Refused n) = refl
-
--- the fields before i are the same
-pub record Comparing (recorded present : List ℕ) (i : ℕ) : Type 0 where
-  pub count : i ≤ 8
-  pub is : difference_in (drop i in_order) (drop i recorded) (drop i present) ≡ first_difference recorded present
 
 pub compare_starts : (recorded present : List ℕ) → Comparing recorded present 0
 unfolding first_difference
@@ -203,12 +200,6 @@ module _ (P : ℕ → ℕ → List ℕ → Playback → Type 0)
   by_records c k s = by_records_within (length s) c k s (omega arith)
 
 -- ---- what the loop keeps
-
--- the records before `at` agree
-pub record Playing (bytes : List ℕ) (records at : ℕ) : Type 0 where
-  pub within : at ≤ length bytes
-  pub few : records ≤ at
-  pub is : played_from records at (drop at bytes) ≡ played_back bytes
 
 pub play_starts : (bytes : List ℕ) → Playing bytes 0 0
 play_starts bytes = record { within = omega arith; few = omega arith; is = refl }

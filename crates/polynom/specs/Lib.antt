@@ -1,3 +1,3 @@
--- What the contracts of `polynom` cite, and that the value is the same with and without the derivative.
+-- What the contracts of `polynom` cite.
 pub mod Polynom
 pub mod Terms

@@ -1,4 +1,4 @@
--- What can be recorded, in document 02's words, and that the definition's tests say it.
+-- What can be recorded, in document 02's words. Definitions only.
 use Prim.Native.Nat.{ℕ, ◌≤◌}
 use Rattle.std.specs.Prelude.{◌⊎◌, ◌≡◌, take}
 use Rattle.numerical.specs.Answers.{kind_of, numbers_of}

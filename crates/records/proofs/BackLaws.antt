@@ -32,6 +32,7 @@ use Rattle.records.proofs.PartLaws.{by_parts}
 use Rattle.records.specs.RoundLaws.{Held, Sound}
 use Rattle.records.proofs.RoundLaws.{at_the_end, most, least}
 use Rattle.records.specs.declared.Record.{Record}
+use Rattle.records.specs.BackLaws.{doubles_of}
 
 -- ---- how many groups
 
@@ -63,10 +64,6 @@ ten_each [] = omega arith
 ten_each (n ∷ l) = let r = ten_each l in let a = ten_at_most n in let b = length-append (groups n) (spell l) in omega arith
 
 -- ---- doubles by their bits
-
-pub doubles_of : List ℕ → List Float
-doubles_of [] = []
-doubles_of (n ∷ l) = of_bits binary64 n ∷ doubles_of l
 
 held_doubles : (l : List ℕ) → Held (doubles_of l)
 unfolding doubles_of

@@ -14,6 +14,7 @@ use Rattle.records.specs.Records.{headed, record_layout, longest_record, told, r
 use Rattle.records.proofs.BackLaws.{at_most_longest}
 use Rattle.records.specs.declared.Record.{Record}
 use Rattle.records.specs.declared.Verdict.TheVariants as verdict
+use Rattle.records.specs.PrefixLaws.{Holds}
 
 -- ---- a record has a byte at least
 
@@ -34,11 +35,6 @@ unfolding record_layout headed
 record_some l x r = some_bytes r
 
 -- ---- what a verdict tells of the bytes
-
-pub record Holds (s : List ℕ) (n : ℕ) (t : List ℕ) : Type 0 where
-  pub is : read record_layout s ≡ held (reading_of s).content t
-  pub count : n + length t ≡ length s
-  pub some : 0 < n
 
 module _ (s : List ℕ) {n : ℕ} where
   pub bytes_hold : (reading_of s).verdict ≡ verdict.Bytes n → (t : List ℕ) × Holds s n t

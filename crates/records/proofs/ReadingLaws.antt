@@ -1,5 +1,5 @@
 -- What was read is a record by its own row, with its bytes and its length; and what can be recorded reads back from its bytes.
-use Rattle.std.specs.Prelude.{ℕ, ◌-◌, ◌≤◌, true, List, ◌++◌, ◌≡◌, take, drop}
+use Rattle.std.specs.Prelude.{ℕ, ◌-◌, ◌≤◌, true, List, ◌++◌, ◌≡◌, drop}
 use native.Mathlib.Omega.{arith}
 use Rattle.std.proofs.Math.Path.{ap}
 use Rattle.std.proofs.Common.{sym, ◌∙◌, subst, length-drop, drop_at, take_all}
@@ -12,9 +12,11 @@ use Rattle.records.specs.Records.{row_of, record_layout, recordable, bytes_of, t
 use Rattle.records.specs.RoundLaws.{Sound, trimmed}
 use Rattle.records.proofs.RoundLaws.{most, row_right, recordable_parts, parts_recordable}
 use Rattle.records.proofs.BackLaws as back
-use Rattle.records.proofs.PrefixLaws.{Holds, bytes_hold}
+use Rattle.records.specs.PrefixLaws.{Holds}
+use Rattle.records.proofs.PrefixLaws.{bytes_hold}
 use Rattle.records.specs.declared.Record.{Record}
 use Rattle.records.specs.declared.Verdict.TheVariants as verdict
+use Rattle.records.specs.ReadingLaws.{tail}
 
 -- ---- what the layout held
 
@@ -41,10 +43,6 @@ module _ (s : List ℕ) (o : Record) (t : List ℕ) (e : read record_layout s �
   own_sound = back.row_sound own_right
 
 -- ---- what was read
-
--- the bytes from an index on, as code lends them
-abbrev pub tail : List ℕ → ℕ → List ℕ
-tail s at = take (length s - at) (drop at s)
 
 pub tail_is : (s : List ℕ) (at : ℕ) → tail s at ≡ drop at s
 tail_is s at = take_all (length s - at) (drop at s) (let m = length-drop at s in omega arith)

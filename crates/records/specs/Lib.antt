@@ -5,5 +5,8 @@ pub mod Parts
 pub mod ReadLaws
 pub mod PartLaws
 pub mod WriteLaws
+pub mod BackLaws
+pub mod PrefixLaws
+pub mod ReadingLaws
 -- what the promises cite
 pub mod RoundLaws

@@ -6,7 +6,8 @@ use Rattle.std.proofs.Math.Seq.{drop-length}
 use Rattle.blocks.specs.Blocks.{part_of}
 use Rattle.records.specs.Records.{longest_record}
 use Rattle.playback.specs.Playback.{field_number, played_from, played_back}
-use Rattle.playback.proofs.AheadLaws.{shifted, played_shifted, Ahead, ahead}
+use Rattle.playback.specs.AheadLaws.{shifted, Ahead}
+use Rattle.playback.proofs.AheadLaws.{played_shifted, ahead}
 use Rattle.playback.specs.declared.Field.{Field}
 use Rattle.playback.specs.declared.Playback.{Playback}
 use Rattle.playback.specs.declared.Playback.TheVariants.{Agree, Differs, Refused}

@@ -1,2 +1,2 @@
--- What the contracts of `walking` cite, and what the laws of searches give for it.
+-- What the contracts of `walking` cite.
 pub mod Walking

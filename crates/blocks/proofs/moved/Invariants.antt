@@ -1,5 +1,5 @@
 use Prim.Native.Nat.{◌-◌}
-use Rattle.blocks.proofs.BlockLaws.{Moving}
+use Rattle.blocks.specs.BlockLaws.{Moving}
 use Rattle.blocks.proofs.moved.Given as goal
 
 abbrev pub invariant-loop-i : goal.invariant-loop-i

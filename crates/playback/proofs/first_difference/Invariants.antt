@@ -1,5 +1,5 @@
 use Prim.Native.Nat.{◌-◌}
-use Rattle.playback.proofs.PlaybackLaws.{Comparing}
+use Rattle.playback.specs.PlaybackLaws.{Comparing}
 use Rattle.playback.proofs.first_difference.Given as goal
 
 abbrev pub invariant-loop-i : goal.invariant-loop-i

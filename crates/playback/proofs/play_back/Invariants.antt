@@ -1,6 +1,6 @@
 use Prim.Native.Nat.{◌-◌}
 use lib.ListN.{length}
-use Rattle.playback.proofs.PlaybackLaws.{Playing}
+use Rattle.playback.specs.PlaybackLaws.{Playing}
 use Rattle.playback.proofs.play_back.Given as goal
 
 abbrev pub invariant-loop-at : goal.invariant-loop-at
