@@ -13,8 +13,7 @@ use Rattle.numerical.specs.declared.Interval.{Interval}
 use Rattle.numerical.specs.declared.Progress.{Progress}
 use Rattle.numerical.specs.declared.Sample.{Sample}
 use Rattle.polynom.specs.Polynom.{evaluated}
-use Rattle.polynom.specs.declared.Evaluated.{Evaluated}
-use Rattle.polynom.specs.declared.Evaluated.TheVariants.{At, NotFinite}
+use Rattle.std.specs.Prelude.{Option, Some, None}
 use Rattle.simple_convergency.specs.Stop.{turns_of}
 use Rattle.simple_convergency.specs.declared.StopRule.{StopRule}
 use Rattle.searching.proofs.Keeps.{ends_tallied}
@@ -70,24 +69,24 @@ module _ (cs : List Float) where
   unfolding offered play
   repeats_offered x f = record { same = (repeats_test (finite x) (f x) (repeats_done _)).same }
 
-  repeats_value : {k l : Sample → Prog (Turned Brent)} (x : Float) → ((p : Sample) → evaluated cs x ≡ At p → Repeats (k p) (l p)) → Repeats (value_at x k) (value_at x l)
+  repeats_value : {k l : Sample → Prog (Turned Brent)} (x : Float) → ((p : Sample) → evaluated cs x ≡ Some p → Repeats (k p) (l p)) → Repeats (value_at x k) (value_at x l)
   unfolding value_at play sampled
   repeats_value {k} {l} x f = record { same = λ p. ap (play tallied (oracle cs) (sampled (evaluated cs x) k)) (valued_repeated p) ∙ (go (evaluated cs x) refl).same (valued_of p) }
     where
-      go : (e : Evaluated) → evaluated cs x ≡ e → Repeats (sampled e k) (sampled e l)
-      go NotFinite e = repeats_done _
-      go (At p) e = f p e
+      go : (e : Option Sample) → evaluated cs x ≡ e → Repeats (sampled e k) (sampled e l)
+      go None e = repeats_done _
+      go (Some p) e = f p e
 
   repeats_bracketed : (stop : StopRule) (p q : Sample) (s : Brent) → Repeats (bracketed stop p q s) (bracketed stop p q s)
   unfolding bracketed play
   repeats_bracketed stop p q s = repeats_ruled 1 (product_departs p q) (repeats_stops stop _ (repeats_done _) (record { same = (repeats_done {A = Turned Brent} (next s)).same }))
 
   -- a step to the state that the kept end's sample gives, where that is what the evaluator gives
-  repeats_kept : {q : Sample} (x : Float) (pair : Brent → Interval) (f : Sample → Brent) → evaluated cs x ≡ At q → Repeats (value_at x (λ r. narrows_to pair (f r))) (narrows_to pair (f q))
+  repeats_kept : {q : Sample} (x : Float) (pair : Brent → Interval) (f : Sample → Brent) → evaluated cs x ≡ Some q → Repeats (value_at x (λ r. narrows_to pair (f r))) (narrows_to pair (f q))
   unfolding value_at sampled narrows_to play
   repeats_kept {q} x pair f e = record { same = λ p. ap (from p) e ∙ ap there (stepped_repeated p) }
     where
-      from : Progress → Evaluated → Turned Brent × Progress
+      from : Progress → Option Sample → Turned Brent × Progress
       from p v = play tallied (oracle cs) (sampled v (λ r. narrows_to pair (f r))) (valued_of (repeated p))
 
       there : Progress → Turned Brent × Progress

@@ -3,7 +3,7 @@ use Rattle.std.specs.Prelude.{Bool, List, [], ◌∷◌, ◌≡◌, Float}
 use Rattle.std.proofs.Common.{ap, ◌∙◌}
 use Rattle.numerical.specs.declared.Sample.{Sample}
 use Rattle.polynom.specs.Polynom.{evaluated}
-use Rattle.polynom.specs.declared.Evaluated.TheVariants.{At}
+use Rattle.std.specs.Prelude.{Some}
 use Rattle.simple_convergency.specs.declared.StopRule.{StopRule}
 use Rattle.searching.specs.Programs.{ruled, Prog, Turned, oracle, Event, noted}
 use Rattle.searching.specs.Keeps.{Ends}
@@ -20,15 +20,15 @@ module _ (cs : List Float) where
   Knows g h = Ends (oracle cs) (Known cs) g h
 
   -- an answered sample is the value at its own point
-  own : (x : Float) (p : Sample) → evaluated cs x ≡ At p → evaluated cs p.x ≡ At p
+  own : (x : Float) (p : Sample) → evaluated cs x ≡ Some p → evaluated cs p.x ≡ Some p
   own x p e = ap (evaluated cs) (answered_at cs x p e) ∙ e
 
   -- ---- the opening
-  knows_opened : (stop : StopRule) (r : Arranged) (h : List Event) → evaluated cs r.a.x ≡ At r.a → evaluated cs r.b.x ≡ At r.b → Knows (opened stop r) h
+  knows_opened : (stop : StopRule) (r : Arranged) (h : List Event) → evaluated cs r.a.x ≡ Some r.a → evaluated cs r.b.x ≡ Some r.b → Knows (opened stop r) h
   unfolding opened start_of
   knows_opened stop r h p q = ends_bracketed _ stop _ _ (λ _. tt) (λ _. record { of_a = p; of_b = q })
 
-  knows_second : (stop : StopRule) (p q : Sample) (h : List Event) → evaluated cs p.x ≡ At p → evaluated cs q.x ≡ At q → Knows (second_at stop p q) h
+  knows_second : (stop : StopRule) (p q : Sample) (h : List Event) → evaluated cs p.x ≡ Some p → evaluated cs q.x ≡ Some q → Knows (second_at stop p q) h
   unfolding second_at
   knows_second stop p q h e f = either_way (λ r. Knows (opened stop r) h) p q (knows_opened stop _ h e f) (knows_opened stop _ h f e)
 
@@ -41,13 +41,13 @@ module _ (cs : List Float) where
 
   -- ---- a turn
   knows_next :
-      (s : Brent) (flag : Bool) (p q : Sample) (h : List Event) → evaluated cs p.x ≡ At p → evaluated cs q.x ≡ At q →
+      (s : Brent) (flag : Bool) (p q : Sample) (h : List Event) → evaluated cs p.x ≡ Some p → evaluated cs q.x ≡ Some q →
       Knows (completes s flag (arrange p q)) h
   unfolding next_of
   knows_next s flag p q h e f =
       either_way (λ r. Knows (completes s flag r) h) p q (ends_narrows _ pair_of (record { of_a = e; of_b = f })) (ends_narrows _ pair_of (record { of_a = f; of_b = e }))
 
-  knows_arrived : (s : Brent) (flag : Bool) (p : Sample) (h : List Event) → Evaluations cs s → evaluated cs p.x ≡ At p → Knows (arrived s flag p) h
+  knows_arrived : (s : Brent) (flag : Bool) (p : Sample) (h : List Event) → Evaluations cs s → evaluated cs p.x ≡ Some p → Knows (arrived s flag p) h
   unfolding arrived
   knows_arrived s flag p h k e =
       let i = noted (ruled 1 (step_departs s.a p)) ∷ h in

@@ -4,7 +4,7 @@ use Rattle.std.proofs.Math.Logic.{inl, inr}
 use Rattle.std.proofs.Math.Path.{refl}
 use Rattle.std.proofs.Common.{◌∙◌}
 use Rattle.numerical.specs.declared.Sample.{Sample}
-use Rattle.polynom.specs.declared.Evaluated.TheVariants.{At}
+use Rattle.std.specs.Prelude.{Some}
 use Rattle.simple_convergency.specs.declared.StopRule.{StopRule}
 use Rattle.searching.specs.Programs.{ruled, oracle, Event, asked, noted, Prog, Turned}
 use Rattle.searching.specs.Brackets.{pairs_in}
@@ -35,13 +35,13 @@ module _ (a : List Float) (stop : StopRule) (from to : Float) where
       traced_bracketed stop (record { begin = r.a; end = r.b }) _ (λ d. inl refl) (λ d c. l) (λ d c. inl l) o
       (λ h2 n f t. (t, rw n refl, (z.0, z.1, f ∙ z.2)))
 
-  traces_second : (p q : Sample) (h : List Event) → evaluations_in h ≡ asked to (At q) ∷ asked from (At p) ∷ [] → Tried h → Opening (Follows from to) h → Reaches (second_at stop p q) h
+  traces_second : (p q : Sample) (h : List Event) → evaluations_in h ≡ asked to (Some q) ∷ asked from (Some p) ∷ [] → Tried h → Opening (Follows from to) h → Reaches (second_at stop p q) h
   unfolding second_at
   traces_second p q h l z o = either_way (λ r. Reaches (opened stop r) h) p q (traces_opened _ h (from, to, inl l) z o) (traces_opened _ h (from, to, inr l) z o)
 
-  traces_first : (p : Sample) (h : List Event) → evaluations_in h ≡ asked from (At p) ∷ [] → Opening (Follows from to) h → Reaches (first_at stop to p) h
+  traces_first : (p : Sample) (h : List Event) → evaluations_in h ≡ asked from (Some p) ∷ [] → Opening (Follows from to) h → Reaches (first_at stop to p) h
   unfolding first_at evaluations_in evaluated_since
-  traces_first p h l o = opening_value to (λ e. inr (inl (At p, l, refl))) o (λ q b. traces_second p q _ (rw l refl) (_, _, refl) b)
+  traces_first p h l o = opening_value to (λ e. inr (inl (Some p, l, refl))) o (λ q b. traces_second p q _ (rw l refl) (_, _, refl) b)
 
   pub traces_opening : Reaches (opening stop from to) []
   unfolding opening evaluations_in

@@ -2,15 +2,15 @@
 use Rattle.std.specs.Prelude.{List, ◌≡◌, Float}
 use Rattle.numerical.specs.declared.Answer.{Answer}
 use Rattle.polynom.specs.Polynom.{evaluated}
-use Rattle.polynom.specs.declared.Evaluated.TheVariants.{At}
+use Rattle.std.specs.Prelude.{Some}
 use Rattle.searching.specs.Programs.{Turned, Event}
 use Rattle.searching.specs.Keeps.{After}
 use Rattle.brent.specs.declared.Brent.{Brent}
 
 -- the samples of the pair came from evaluations
 pub record Evaluations (cs : List Float) (s : Brent) : Type 0 where
-  pub of_a : evaluated cs s.a.x ≡ At s.a
-  pub of_b : evaluated cs s.b.x ≡ At s.b
+  pub of_a : evaluated cs s.a.x ≡ Some s.a
+  pub of_b : evaluated cs s.b.x ≡ Some s.b
 
 -- a search stands at such a state, or has ended
 abbrev pub Known : List Float → Turned Brent → List Event → Type 0

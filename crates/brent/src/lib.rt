@@ -11,7 +11,6 @@ ghost use Rattle.searching.specs.Loops.{Ample, run_of};
 ghost use Rattle.brent.specs.Brent.{arrange, opened, second_at, first_at, opening, inverse_quadratic, chord, three_values, guess_of, beyond_quarter, too_slow, stalls, bisects, used_of, next_of, completes, opposite_by, arrived, landed, pulled_in, step_with, step_from, turn_from, brent, viewed};
 
 use numerical::{Answer, Outcome, Progress, Sample};
-use polynom::Evaluated;
 use searching::Decided;
 use simple_convergency::StopRule;
 
@@ -112,7 +111,7 @@ fn first_at(a: &[f64], to: f64, p: Sample, progress: Progress) -> Turn
 {
     let counted = progress.valued();
     let e = polynom::evaluate(a, to);
-    let Evaluated::At(q) = e else {
+    let Some(q) = e else {
         return ended(Answer::Refused(9), counted);
     };
     second_at(p, q, counted)
@@ -125,7 +124,7 @@ fn opening(a: &[f64], from: f64, to: f64, progress: Progress) -> Turn
 {
     let counted = progress.valued();
     let e = polynom::evaluate(a, from);
-    let Evaluated::At(p) = e else {
+    let Some(p) = e else {
         return ended(Answer::Refused(9), counted);
     };
     first_at(a, to, p, counted)
@@ -285,7 +284,7 @@ fn landed(a: &[f64], s: Brent, flag: bool, x: f64, progress: Progress) -> Turn
 {
     let counted = progress.valued();
     let e = polynom::evaluate(a, x);
-    let Evaluated::At(p) = e else {
+    let Some(p) = e else {
         return ended(Answer::Refused(9), counted);
     };
     arrived(s, flag, p, counted)

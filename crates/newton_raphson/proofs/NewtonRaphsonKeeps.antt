@@ -10,7 +10,7 @@ use Rattle.simple_convergency.specs.Stop.{flat_at}
 use Rattle.simple_convergency.specs.declared.StopRule.{StopRule}
 use Rattle.polynom.specs.Polynom.{value_and_derivative, evaluated_both}
 use Rattle.polynom.specs.declared.ValueAndDerivative.{ValueAndDerivative}
-use Rattle.polynom.specs.declared.EvaluatedBoth.TheVariants.{Both, NotBothFinite}
+use Rattle.std.specs.Prelude.{Some, None}
 use Rattle.searching.specs.Programs.{found, tested, oracle, Event, noted, Prog, Turned}
 use Rattle.searching.specs.Histories.{steps_in, mark_in}
 use Rattle.searching.specs.Keeps.{Ends, After}
@@ -21,11 +21,11 @@ use Rattle.newton_raphson.specs.NewtonRaphson.{landed, onward, later_at, turn_fr
 use Rattle.newton_raphson.specs.declared.Spot.{Spot}
 
 -- what is answered for a value and a derivative is what is computed
-both_computed : (a : List Float) (x : Float) (v : ValueAndDerivative) → evaluated_both a x ≡ Both v → value_and_derivative a x ≡ v
+both_computed : (a : List Float) (x : Float) (v : ValueAndDerivative) → evaluated_both a x ≡ Some v → value_and_derivative a x ≡ v
 unfolding evaluated_both
 both_computed a x v = go (finite (value_and_derivative a x).value.y) (finite (value_and_derivative a x).derivative)
   where
-    go : (b c : Bool) → cond b (cond c (Both (value_and_derivative a x)) NotBothFinite) NotBothFinite ≡ Both v → value_and_derivative a x ≡ v
+    go : (b c : Bool) → cond b (cond c (Some (value_and_derivative a x)) None) None ≡ Some v → value_and_derivative a x ≡ v
     go true true e = cc
     go true false e = absurd (let z : ◌≡◌ {A = ℕ} 0 1 = cc in omega arith)
     go false c e = absurd (let z : ◌≡◌ {A = ℕ} 0 1 = cc in omega arith)

@@ -11,7 +11,7 @@ ghost use Rattle.searching.specs.Loops.{Ample, run_of};
 ghost use Rattle.newton_raphson.specs.NewtonRaphson.{newton_point, landed, onward, later_at, turn_from, nudge, first_at, opening, turns_left, newton_raphson, viewed};
 
 use numerical::{Answer, Outcome, Progress, Sample};
-use polynom::{EvaluatedBoth, ValueAndDerivative};
+use polynom::ValueAndDerivative;
 use simple_convergency::StopRule;
 
 // Where the search stands, and whether the step that led there was the nudge: first, where an answer has its kind, so that x lies where a root does.
@@ -133,7 +133,7 @@ fn take_turn(a: &[f64], stop: StopRule, s: Spot, progress: Progress) -> Turn
 {
     let counted = progress.sloped();
     let e = polynom::evaluate_both(a, s.x);
-    let EvaluatedBoth::Both(v) = e else {
+    let Some(v) = e else {
         return ended(Answer::Refused(9), counted);
     };
     later_at(stop, v, counted)
@@ -176,7 +176,7 @@ fn opening(a: &[f64], stop: StopRule, start: f64, progress: Progress) -> Turn
 {
     let counted = progress.sloped();
     let e = polynom::evaluate_both(a, start);
-    let EvaluatedBoth::Both(v) = e else {
+    let Some(v) = e else {
         return ended(Answer::Refused(9), counted);
     };
     first_at(stop, v, counted)

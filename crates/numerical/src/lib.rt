@@ -80,15 +80,11 @@ impl Progress {
         requires { Room 1 self }
         ensures { result ≡ valued_of self }
     {
-        let t = self.tally;
-        Progress {
-            tally: Tally {
-                steps: Steps(t.steps.0),
-                values: Values(t.values.0 + 1),
-                derivatives: Derivatives(t.derivatives.0),
-            },
-            mark: self.mark,
-        }
+        let tally = Tally {
+            values: Values(self.tally.values.0 + 1),
+            ..self.tally
+        };
+        Progress { tally, ..self }
     }
 
     // One value and its derivative more.
@@ -96,15 +92,12 @@ impl Progress {
         requires { Room 1 self }
         ensures { result ≡ sloped_of self }
     {
-        let t = self.tally;
-        Progress {
-            tally: Tally {
-                steps: Steps(t.steps.0),
-                values: Values(t.values.0 + 1),
-                derivatives: Derivatives(t.derivatives.0 + 1),
-            },
-            mark: self.mark,
-        }
+        let tally = Tally {
+            values: Values(self.tally.values.0 + 1),
+            derivatives: Derivatives(self.tally.derivatives.0 + 1),
+            ..self.tally
+        };
+        Progress { tally, ..self }
     }
 
     // One step more.
@@ -112,29 +105,22 @@ impl Progress {
         requires { Room 1 self }
         ensures { result ≡ stepped_of self }
     {
-        let t = self.tally;
-        Progress {
-            tally: Tally {
-                steps: Steps(t.steps.0 + 1),
-                values: Values(t.values.0),
-                derivatives: Derivatives(t.derivatives.0),
-            },
-            mark: self.mark,
-        }
+        let tally = Tally {
+            steps: Steps(self.tally.steps.0 + 1),
+            ..self.tally
+        };
+        Progress { tally, ..self }
     }
 
     // An added rule was applied, and departed or not: the mark is the first that departed.
     pub fn ruled(self, rule: u8, departed: bool) -> Progress
         ensures { result ≡ ruled_of rule departed self }
     {
-        let mark = self.mark;
-        if departed {
-            if mark == 0 {
-                let tally = self.tally;
-                return Progress { tally, mark: rule };
-            }
+        if departed && self.mark == 0 {
+            Progress { mark: rule, ..self }
+        } else {
+            self
         }
-        self
     }
 
     // Steps, values, derivatives and the mark.
@@ -142,8 +128,7 @@ impl Progress {
         ensures { result ≡ counts_of self }
     {
         let t = self.tally;
-        let mark = self.mark as u64;
-        [t.steps.0, t.values.0, t.derivatives.0, mark]
+        [t.steps.0, t.values.0, t.derivatives.0, self.mark as u64]
     }
 }
 
@@ -153,12 +138,8 @@ impl Answer {
         ensures { result ≡ kind_of self }
     {
         match self {
-            Answer::ByValue { root: _, value: _ } => 0,
-            Answer::ByWidth {
-                root: _,
-                p: _,
-                q: _,
-            } => 1,
+            Answer::ByValue { .. } => 0,
+            Answer::ByWidth { .. } => 1,
             Answer::Refused(number) => 10 + number as u64,
         }
     }

@@ -7,10 +7,7 @@ use Rattle.doubles.specs.Doubles.{nought}
 use Rattle.numerical.specs.declared.Sample.{Sample}
 use Rattle.polynom.specs.declared.Sum.{Sum}
 use Rattle.polynom.specs.declared.ValueAndDerivative.{ValueAndDerivative}
-use Rattle.polynom.specs.declared.Evaluated.{Evaluated}
-use Rattle.polynom.specs.declared.Evaluated.TheVariants.{At, NotFinite}
-use Rattle.polynom.specs.declared.EvaluatedBoth.{EvaluatedBoth}
-use Rattle.polynom.specs.declared.EvaluatedBoth.TheVariants.{Both, NotBothFinite}
+use Rattle.std.specs.Prelude.{Option, Some, None}
 
 abbrev pub one : Float
 one = of_bits binary64 0x3ff0_0000_0000_0000
@@ -73,16 +70,16 @@ value_and_derivative a x = whole_both x (sums_both a x)
 abbrev pub sample_of : Float → Float → Sample
 sample_of x y = record { x = x; y = y }
 
-abbrev pub sample_if_finite : Float → Float → Evaluated
-sample_if_finite x y = cond (finite y) (At (sample_of x y)) NotFinite
+abbrev pub sample_if_finite : Float → Float → Option Sample
+sample_if_finite x y = cond (finite y) (Some (sample_of x y)) None
 
 -- a sample at x, or that its value is not finite
-unfoldable pub evaluated : List Float → Float → Evaluated
+unfoldable pub evaluated : List Float → Float → Option Sample
 evaluated a x = sample_if_finite x (value a x)
 
-abbrev pub both_if_finite : ValueAndDerivative → EvaluatedBoth
-both_if_finite v = cond (finite v.value.y) (cond (finite v.derivative) (Both v) NotBothFinite) NotBothFinite
+abbrev pub both_if_finite : ValueAndDerivative → Option ValueAndDerivative
+both_if_finite v = cond (finite v.value.y) (cond (finite v.derivative) (Some v) None) None
 
 -- "they are worked out together and then checked"
-unfoldable pub evaluated_both : List Float → Float → EvaluatedBoth
+unfoldable pub evaluated_both : List Float → Float → Option ValueAndDerivative
 evaluated_both a x = both_if_finite (value_and_derivative a x)

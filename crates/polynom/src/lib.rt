@@ -28,20 +28,6 @@ pub struct ValueAndDerivative {
     pub derivative: f64,
 }
 
-// A sample, or that its value is not finite.
-#[derive(Clone, Copy)]
-pub enum Evaluated {
-    At(Sample),
-    NotFinite,
-}
-
-// A sample with its derivative, or that one of the two is not finite.
-#[derive(Clone, Copy)]
-pub enum EvaluatedBoth {
-    Both(ValueAndDerivative),
-    NotBothFinite,
-}
-
 // The sum of the coefficients from i on, with that of those after i at hand.
 fn one_more(a: &[f64], x: f64, i: usize, after: Sum) -> Sum
     requires { (i < length a.now) × (sums (drop (1 + i) a.now) x ≡ after) }
@@ -136,40 +122,40 @@ pub fn value_and_derivative(a: &[f64], x: f64) -> ValueAndDerivative
 }
 
 // The sample of a point and its value, if that is finite.
-fn sample_if_finite(x: f64, y: f64) -> Evaluated
+fn sample_if_finite(x: f64, y: f64) -> Option<Sample>
     ensures { result ≡ sample_if_finite x y }
 {
     if doubles::is_finite(y) {
-        Evaluated::At(Sample { x, y })
+        Some(Sample { x, y })
     } else {
-        Evaluated::NotFinite
+        None
     }
 }
 
 // The sample at x, if its value is finite.
-pub fn evaluate(a: &[f64], x: f64) -> Evaluated
+pub fn evaluate(a: &[f64], x: f64) -> Option<Sample>
     ensures { result ≡ evaluated a.now x }
 {
     sample_if_finite(x, value(a, x))
 }
 
 // What was worked out together is checked together.
-fn both_if_finite(v: ValueAndDerivative) -> EvaluatedBoth
+fn both_if_finite(v: ValueAndDerivative) -> Option<ValueAndDerivative>
     ensures { result ≡ both_if_finite v }
 {
     if doubles::is_finite(v.value.y) {
         if doubles::is_finite(v.derivative) {
-            EvaluatedBoth::Both(v)
+            Some(v)
         } else {
-            EvaluatedBoth::NotBothFinite
+            None
         }
     } else {
-        EvaluatedBoth::NotBothFinite
+        None
     }
 }
 
 // The sample at x with its derivative, if both are finite.
-pub fn evaluate_both(a: &[f64], x: f64) -> EvaluatedBoth
+pub fn evaluate_both(a: &[f64], x: f64) -> Option<ValueAndDerivative>
     ensures { result ≡ evaluated_both a.now x }
 {
     both_if_finite(value_and_derivative(a, x))

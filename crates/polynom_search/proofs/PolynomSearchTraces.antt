@@ -7,7 +7,7 @@ use Rattle.doubles.specs.Doubles.{absolute, pulled}
 use Rattle.numerical.specs.Middle.{middle_of}
 use Rattle.numerical.specs.declared.Interval.{Interval}
 use Rattle.numerical.specs.declared.Sample.{Sample}
-use Rattle.polynom.specs.declared.Evaluated.TheVariants.{At}
+use Rattle.std.specs.Prelude.{Some}
 use Rattle.polynom.specs.declared.ValueAndDerivative.{ValueAndDerivative}
 use Rattle.simple_convergency.specs.Stop.{turns_of}
 use Rattle.simple_convergency.specs.declared.StopRule.{StopRule}
@@ -34,10 +34,10 @@ module _ (a : List Float) (stop : StopRule) (from to : Float) where
 
   -- ---- the opening, from the starts in order
   module _ (x1 x2 : Float) (low : x1 ≡ lower_of from to) (high : x2 ≡ upper_of from to) where
-    traces_first : (p : Sample) (h : List Event) → evaluations_in h ≡ asked x1 (At p) ∷ [] → Opening (Follows from to) h → Reaches (first_at stop x2 p) h
+    traces_first : (p : Sample) (h : List Event) → evaluations_in h ≡ asked x1 (Some p) ∷ [] → Opening (Follows from to) h → Reaches (first_at stop x2 p) h
     unfolding first_at second_at evaluations_in evaluated_since
     traces_first p h l o =
-        opening_value x2 (λ e. inr (inl (At p, rw (← low) l, high))) o
+        opening_value x2 (λ e. inr (inl (Some p, rw (← low) l, high))) o
         (λ q b. traced_bracketed stop (record { begin = p; end = q }) _ (λ d. inl refl) (λ d c. (x1, x2, inl (rw l refl))) (λ d c. inl (x1, x2, inl (rw l refl))) b (λ h2 n f t. (t, (_, _, f))))
 
     traces_ordered : Reaches (ordered stop x1 x2) []

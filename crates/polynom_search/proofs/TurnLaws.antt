@@ -20,14 +20,14 @@ use Rattle.searching.specs.declared.Decided.{Decided}
 use Rattle.searching.specs.declared.Placed.{Placed}
 use Rattle.polynom_search.specs.PolynomSearch.{pair_of, replaced_of, chosen, closer, newton_point, in_pair, usable, at_middle, pulled_in, at_middle_of, middle_in}
 use Rattle.polynom_search.specs.declared.Middle.{Middle}
-use Rattle.polynom_search.specs.declared.Middle.TheVariants.{In, NotFinite}
+use Rattle.polynom_search.specs.declared.Middle.TheVariants.{In, None}
 
 -- `middle` is worked out, and tested: it is pulled, or refused
 module _ (p : Progress) (i : Interval) {f : Bool} {x : Float} (e : f ≡ finite x) (n : x ≡ middle_of i) where
   pub finite_middle : {w : Placed} → f ≡ true → w ≡ placed_in i.begin.x i.end.x x p → In w ≡ middle_in i p
   finite_middle t w = rw (w, ← n, ← e, t) refl
 
-  pub not_finite_middle : f ≡ false → NotFinite ≡ middle_in i p
+  pub not_finite_middle : f ≡ false → None ≡ middle_in i p
   not_finite_middle t = rw (← n, ← e, t) refl
 
 -- from what `middle` came to, the rest of the turn follows
@@ -36,14 +36,14 @@ module _ (p : Progress) (i : Interval) {m : Middle} (e : m ≡ middle_in i p) wh
   middle_placed : {w : Placed} → m ≡ In w → (finite (middle_of i) ≡ true) × (w ≡ placed_in i.begin.x i.end.x (middle_of i) p)
   middle_placed {w} h = go (finite (middle_of i)) (sym h ∙ e)
     where
-      go : (b : Bool) → In w ≡ cond b (In (placed_in i.begin.x i.end.x (middle_of i) p)) NotFinite → (b ≡ true) × (w ≡ placed_in i.begin.x i.end.x (middle_of i) p)
+      go : (b : Bool) → In w ≡ cond b (In (placed_in i.begin.x i.end.x (middle_of i) p)) None → (b ≡ true) × (w ≡ placed_in i.begin.x i.end.x (middle_of i) p)
       go true z = (refl, cc)
       go false z = absurd (let q : ◌≡◌ {A = ℕ} 0 1 = cc in omega arith)
 
-  middle_missing : m ≡ NotFinite → finite (middle_of i) ≡ false
+  middle_missing : m ≡ None → finite (middle_of i) ≡ false
   middle_missing h = go (finite (middle_of i)) (sym h ∙ e)
     where
-      go : (b : Bool) → NotFinite ≡ cond b (In (placed_in i.begin.x i.end.x (middle_of i) p)) NotFinite → b ≡ false
+      go : (b : Bool) → None ≡ cond b (In (placed_in i.begin.x i.end.x (middle_of i) p)) None → b ≡ false
       go true z = absurd (let q : ◌≡◌ {A = ℕ} 0 1 = cc in omega arith)
       go false z = refl
 
@@ -55,7 +55,7 @@ module _ (p : Progress) (i : Interval) {m : Middle} (e : m ≡ middle_in i p) wh
     unfolding at_middle_of pulled_in
     by_middle h g = let t = middle_placed h in by_offer cs p _ _ refl t.0 refl (by_placed cs p _ _ _ k t.1 g)
 
-    pub by_no_middle : m ≡ NotFinite → r ≡ (ended (Refused 9), p) → r ≡ play tallied (oracle cs) (at_middle_of i k) p
+    pub by_no_middle : m ≡ None → r ≡ (ended (Refused 9), p) → r ≡ play tallied (oracle cs) (at_middle_of i k) p
     unfolding at_middle_of
     by_no_middle h g = by_no_offer cs p _ _ refl (middle_missing h) refl g
 

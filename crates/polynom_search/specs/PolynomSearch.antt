@@ -17,7 +17,7 @@ use Rattle.polynom.specs.declared.ValueAndDerivative.{ValueAndDerivative}
 use Rattle.searching.specs.Programs.{rising, found, converged, ruled, Prog, log, Turned, ended, next, test, stops, answers, by_value, value_at, both_at, offered, pulled_into, product_departs, bracketed, narrows_to, searches, answer_of}
 use Rattle.searching.specs.Rules.{placed_in}
 use Rattle.polynom_search.specs.declared.Middle.{Middle}
-use Rattle.polynom_search.specs.declared.Middle.TheVariants.{In, NotFinite}
+use Rattle.polynom_search.specs.declared.Middle.TheVariants.{In, None}
 use Rattle.polynom_search.specs.declared.To.{To}
 use Rattle.polynom_search.specs.declared.To.TheVariants.{Ended, Next}
 use Rattle.polynom_search.specs.declared.Turn.{Turn}
@@ -110,7 +110,7 @@ polynom_search cs stop a b = answer_of cs (polynom_program stop a b)
 
 -- `middle` pulled into the pair, with the mark of that, unless it isn't finite
 abbrev pub middle_in : Interval → Progress → Middle
-middle_in i p = cond (finite (middle_of i)) (In (placed_in i.begin.x i.end.x (middle_of i) p)) NotFinite
+middle_in i p = cond (finite (middle_of i)) (In (placed_in i.begin.x i.end.x (middle_of i) p)) None
 
 abbrev pub seen : To → Turned Interval
 seen (Ended a) = ended a

@@ -5,8 +5,7 @@ use Rattle.doubles.specs.Doubles.{absolute, pulled}
 use Rattle.numerical.specs.Middle.{middle_of}
 use Rattle.numerical.specs.declared.Interval.{Interval}
 use Rattle.numerical.specs.declared.Sample.{Sample}
-use Rattle.polynom.specs.declared.Evaluated.TheVariants.{At}
-use Rattle.polynom.specs.declared.EvaluatedBoth.TheVariants.{Both}
+use Rattle.std.specs.Prelude.{Some}
 use Rattle.polynom.specs.declared.ValueAndDerivative.{ValueAndDerivative}
 use Rattle.searching.specs.Programs.{found, converged, flat, alike, tested, candidate, ruled, paired, stepped, Event, asked, asked_both, noted}
 use Rattle.searching.specs.Events.{evaluated_since, Newest, Tried, AnsweredBoth, Replaced, AfterPair, AtFirst, AtSecond, lower_of, upper_of, OfStarts, EndOf, PointsOf, PulledNow, Rules}
@@ -22,7 +21,7 @@ MiddleNow x h = (i : Interval) × Newest i h × (x ≡ middle_of i)
 
 -- v, and then q at the Newton point, were worked out since the newest candidate
 abbrev pub NewtonAnswered : ValueAndDerivative → Sample → List Event → Type 0
-NewtonAnswered v q h = (x : Float) × (z : Float) × (evaluated_since h ≡ asked z (At q) ∷ asked_both x (Both v) ∷ [])
+NewtonAnswered v q h = (x : Float) × (z : Float) × (evaluated_since h ≡ asked z (Some q) ∷ asked_both x (Some v) ∷ [])
 
 -- p is the middle's sample where no Newton point was usable, and otherwise the one of the two that is smaller in size, the middle's on a tie
 abbrev pub ChosenNow : Sample → List Event → Type 0

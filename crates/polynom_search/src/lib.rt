@@ -12,7 +12,7 @@ ghost use Rattle.searching.specs.Loops.{Ample, run_of};
 ghost use Rattle.polynom_search.specs.PolynomSearch.{second_at, first_at, ordered, opening, chosen, closer, newton_point, in_pair, at_middle, step_at, width_at, middle_in, at_middle_of, turn_from, polynom_search, viewed};
 
 use numerical::{Answer, Interval, Outcome, Progress, Sample};
-use polynom::{Evaluated, EvaluatedBoth, ValueAndDerivative};
+use polynom::ValueAndDerivative;
 use searching::Placed;
 use simple_convergency::StopRule;
 
@@ -74,7 +74,7 @@ fn first_at(a: &[f64], end: f64, p: Sample, progress: Progress) -> Turn
 {
     let counted = progress.valued();
     let e = polynom::evaluate(a, end);
-    let Evaluated::At(q) = e else {
+    let Some(q) = e else {
         return ended(Answer::Refused(9), counted);
     };
     second_at(p, q, counted)
@@ -87,7 +87,7 @@ fn ordered(a: &[f64], begin: f64, end: f64, progress: Progress) -> Turn
 {
     let counted = progress.valued();
     let e = polynom::evaluate(a, begin);
-    let Evaluated::At(p) = e else {
+    let Some(p) = e else {
         return ended(Answer::Refused(9), counted);
     };
     first_at(a, end, p, counted)
@@ -156,7 +156,7 @@ fn at_middle(a: &[f64], i: Interval, v: ValueAndDerivative, progress: Progress) 
         if in_pair(i, x) {
             let counted = progress.valued();
             let e = polynom::evaluate(a, x);
-            let Evaluated::At(p) = e else {
+            let Some(p) = e else {
                 return ended(Answer::Refused(9), counted);
             };
             return closer(i, middle, p, counted);
@@ -172,7 +172,7 @@ fn step_at(a: &[f64], i: Interval, x: f64, progress: Progress) -> Turn
 {
     let counted = progress.sloped();
     let e = polynom::evaluate_both(a, x);
-    let EvaluatedBoth::Both(v) = e else {
+    let Some(v) = e else {
         return ended(Answer::Refused(9), counted);
     };
     at_middle(a, i, v, counted)

@@ -6,7 +6,7 @@ use Rattle.std.proofs.Math.Path.{refl, ap}
 use Rattle.std.proofs.Common.{◌∙◌}
 use Rattle.std.specs.Float.Ieee.{lt}
 use Rattle.numerical.specs.declared.Sample.{Sample}
-use Rattle.polynom.specs.declared.Evaluated.TheVariants.{At}
+use Rattle.std.specs.Prelude.{Some}
 use Rattle.simple_convergency.specs.Stop.{turns_of}
 use Rattle.simple_convergency.specs.declared.StopRule.{StopRule}
 use Rattle.searching.specs.Programs.{rising, found, oracle, Event, asked, Prog, Turned}
@@ -33,17 +33,17 @@ module _ (a : List Float) (stop : StopRule) (from to : Float) where
 
   -- ---- the opening, from the starts in order
   module _ (x1 x2 : Float) (low : x1 ≡ lower_of from to) (high : x2 ≡ upper_of from to) where
-    traces_second : (p q : Sample) (h : List Event) → evaluations_in h ≡ asked x2 (At q) ∷ asked x1 (At p) ∷ [] → Tried h → Opening (Follows from to) h → Reaches (second_at stop p q) h
+    traces_second : (p q : Sample) (h : List Event) → evaluations_in h ≡ asked x2 (Some q) ∷ asked x1 (Some p) ∷ [] → Tried h → Opening (Follows from to) h → Reaches (second_at stop p q) h
     unfolding second_at evaluations_in evaluated_since
     traces_second p q h l z o =
         opening_stops stop (found q) (λ b. refl) (λ b. (x2, _, l)) o (λ b. ends_done (traced_early tt tt b))
         (λ b. traced_bracketed stop (record { begin = p; end = q }) _ (λ d. inl refl) (λ d c. (x1, x2, inl l)) (λ d c. inl (x1, x2, inl l)) b (λ h2 n f t. (t, (z.0, z.1, f ∙ z.2))))
 
-    traces_first : (p : Sample) (h : List Event) → evaluations_in h ≡ asked x1 (At p) ∷ [] → Opening (Follows from to) h → Reaches (first_at stop x2 p) h
+    traces_first : (p : Sample) (h : List Event) → evaluations_in h ≡ asked x1 (Some p) ∷ [] → Opening (Follows from to) h → Reaches (first_at stop x2 p) h
     unfolding first_at evaluations_in evaluated_since
     traces_first p h l o =
         opening_stops stop (found p) (λ b. refl) (λ b. (x1, _, l)) o (λ b. ends_done (traced_early tt tt b))
-        (λ b. opening_value x2 (λ e. inr (inl (At p, rw (← low) l, high))) b (λ q c. traces_second p q _ (rw l refl) (_, _, refl) c))
+        (λ b. opening_value x2 (λ e. inr (inl (Some p, rw (← low) l, high))) b (λ q c. traces_second p q _ (rw l refl) (_, _, refl) c))
 
     traces_ordered : Reaches (ordered stop x1 x2) []
     unfolding ordered evaluations_in
@@ -67,7 +67,7 @@ module _ (a : List Float) (stop : StopRule) (from to : Float) where
     traces_landed x h k t =
         let points : PointsOf s.left.at.x s.right.at.x h = (pair_of s, tracing_newest t, refl, refl) in
         tracing_stops stop _ (λ b. refl) (λ b. points) t (λ u. ends_done (traced_end (points, k) u))
-        (λ u. tracing_value x (λ e. inr (inr k)) u (λ p v. traces_arrived p _ (x, _, refl) (x, ap (λ (l : List Event). asked x (At p) ∷ l) k.3.1) v))
+        (λ u. tracing_value x (λ e. inr (inr k)) u (λ p v. traces_arrived p _ (x, _, refl) (x, ap (λ (l : List Event). asked x (Some p) ∷ l) k.3.1) v))
 
     traces_turn : (h : List Event) → Inv s h → Reaches (turn_from stop s) h
     unfolding turn_from pulled_in pairs_in candidates_in evaluated_since

@@ -11,7 +11,6 @@ ghost use Rattle.searching.specs.Loops.{Ample, run_of};
 ghost use Rattle.regula_falsi.specs.RegulaFalsi.{halved, second_at, first_at, ordered, opening, candidate_of, right_after, left_after, left_replaced, right_replaced, replaced_of, departs, arrived, landed, pulled_in, turn_from, regula_falsi, viewed};
 
 use numerical::{Answer, Outcome, Progress, Sample};
-use polynom::Evaluated;
 use simple_convergency::StopRule;
 
 // An end of the pair: its sample, and the value that the chord is drawn with.
@@ -113,7 +112,7 @@ fn first_at(a: &[f64], stop: StopRule, x2: f64, p: Sample, progress: Progress) -
     }
     let counted = progress.valued();
     let e = polynom::evaluate(a, x2);
-    let Evaluated::At(q) = e else {
+    let Some(q) = e else {
         return ended(Answer::Refused(9), counted);
     };
     second_at(stop, p, q, counted)
@@ -126,7 +125,7 @@ fn ordered(a: &[f64], stop: StopRule, x1: f64, x2: f64, progress: Progress) -> T
 {
     let counted = progress.valued();
     let e = polynom::evaluate(a, x1);
-    let Evaluated::At(p) = e else {
+    let Some(p) = e else {
         return ended(Answer::Refused(9), counted);
     };
     first_at(a, stop, x2, p, counted)
@@ -260,7 +259,7 @@ fn landed(a: &[f64], stop: StopRule, s: Illinois, x: f64, p: Progress) -> Turn
     }
     let counted = p.valued();
     let e = polynom::evaluate(a, x);
-    let Evaluated::At(q) = e else {
+    let Some(q) = e else {
         return ended(Answer::Refused(9), counted);
     };
     arrived(stop, s, q, counted)

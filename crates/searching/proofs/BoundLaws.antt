@@ -12,10 +12,7 @@ use Rattle.numerical.specs.declared.Progress.{Progress}
 use Rattle.numerical.specs.declared.Sample.{Sample}
 use Rattle.simple_convergency.specs.declared.StopRule.{StopRule}
 use Rattle.polynom.specs.declared.ValueAndDerivative.{ValueAndDerivative}
-use Rattle.polynom.specs.declared.Evaluated.{Evaluated}
-use Rattle.polynom.specs.declared.Evaluated.TheVariants.{At, NotFinite}
-use Rattle.polynom.specs.declared.EvaluatedBoth.{EvaluatedBoth}
-use Rattle.polynom.specs.declared.EvaluatedBoth.TheVariants.{Both, NotBothFinite}
+use Rattle.std.specs.Prelude.{Option, Some, None}
 use Rattle.searching.specs.Programs.{Test, ruled, Prog, done, log, Turned, ended, next, bind, test, stops, holds, sampled, sampled_both, value_at, both_at, offered, pulled_into, bracketed, product_departs, steps_to, narrows_to, run, searches, Oracle, oracle, play, tallied, answer_of}
 use Rattle.searching.proofs.ProgramLaws.{play_bind}
 use Rattle.searching.specs.Bounds.{More, Within}
@@ -61,17 +58,17 @@ module _ {v d s : ℕ} {S : Type 0} where
   unfolding value_at play sampled
   within_value x {k} h = record { most = λ o p. let m = (after (o.value x)).most o (valued_of p) in let a = m.values in let b = m.derivatives in let c = m.steps in record { values = omega arith; derivatives = omega arith; steps = omega arith } }
     where
-      after : (e : Evaluated) → Within v d s (sampled e k)
-      after NotFinite = within_done
-      after (At p) = h p
+      after : (e : Option Sample) → Within v d s (sampled e k)
+      after None = within_done
+      after (Some p) = h p
 
   pub within_both : (x : Float) {k : ValueAndDerivative → Prog (Turned S)} → ((p : ValueAndDerivative) → Within v d s (k p)) → Within (suc v) (suc d) s (both_at x k)
   unfolding both_at play sampled_both
   within_both x {k} h = record { most = λ o p. let m = (after (o.both x)).most o (sloped_of p) in let a = m.values in let b = m.derivatives in let c = m.steps in record { values = omega arith; derivatives = omega arith; steps = omega arith } }
     where
-      after : (e : EvaluatedBoth) → Within v d s (sampled_both e k)
-      after NotBothFinite = within_done
-      after (Both p) = h p
+      after : (e : Option ValueAndDerivative) → Within v d s (sampled_both e k)
+      after None = within_done
+      after (Some p) = h p
 
   pub within_offered : (x : Float) {k : Float → Prog (Turned S)} → ((y : Float) → Within v d s (k y)) → Within v d s (offered x k)
   unfolding offered play

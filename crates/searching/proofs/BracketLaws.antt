@@ -18,7 +18,7 @@ use Rattle.numerical.specs.declared.Sample.{Sample}
 use Rattle.simple_convergency.specs.Stop.{found_at, turns_of}
 use Rattle.simple_convergency.specs.declared.StopRule.{StopRule}
 use Rattle.polynom.specs.Polynom.{value}
-use Rattle.polynom.specs.declared.Evaluated.TheVariants.{At}
+use Rattle.std.specs.Prelude.{Some}
 use Rattle.searching.specs.Programs.{found, alike, tested, candidate, ruled, paired, stepped, product_departs, Turned, Prog, value_at, bracketed, oracle, Event, asked, noted}
 use Rattle.searching.specs.Histories.{steps_in}
 use Rattle.searching.specs.Keeps.{Ends, After}
@@ -115,7 +115,7 @@ module _ {stop : StopRule} {h : List Event} (b : Unpaired stop h) where
     -- a value is asked for at a double: 9, or on with the sample
     pub unpaired_value :
         {S : Type 0} {Inv : S → List Event → Type 0} {k : Sample → Prog (Turned S)} (x : Float) → Double x →
-        ((p : Sample) → Answered a x p → Unpaired stop (asked x (At p) ∷ h) → Ends (oracle a) (After Inv (Bracket a stop u v)) (k p) (asked x (At p) ∷ h)) →
+        ((p : Sample) → Answered a x p → Unpaired stop (asked x (Some p) ∷ h) → Ends (oracle a) (After Inv (Bracket a stop u v)) (k p) (asked x (Some p) ∷ h)) →
         Ends (oracle a) (After Inv (Bracket a stop u v)) (value_at x k) h
     unfolding pairs_in steps_in some_ends
     unpaired_value x d f =
@@ -197,7 +197,7 @@ module _ {a : List Float} {stop : StopRule} {u v : Float} {n : ℕ} {i : Interva
   -- a value is asked for at a double: 9, or on with the sample
   pub bracket_value :
       {S : Type 0} {Inv : S → List Event → Type 0} {k : Sample → Prog (Turned S)} (x : Float) → Double x →
-      ((p : Sample) → Answered a x p → Bracketing a stop u v (suc n) i (asked x (At p) ∷ h) → Ends (oracle a) (After Inv (Bracket a stop u v)) (k p) (asked x (At p) ∷ h)) →
+      ((p : Sample) → Answered a x p → Bracketing a stop u v (suc n) i (asked x (Some p) ∷ h) → Ends (oracle a) (After Inv (Bracket a stop u v)) (k p) (asked x (Some p) ∷ h)) →
       Ends (oracle a) (After Inv (Bracket a stop u v)) (value_at x k) h
   unfolding pairs_in steps_in some_ends
   bracket_value x d f =

@@ -12,10 +12,7 @@ use Rattle.numerical.specs.declared.Answer.{Answer}
 use Rattle.numerical.specs.declared.Interval.{Interval}
 use Rattle.numerical.specs.declared.Sample.{Sample}
 use Rattle.simple_convergency.specs.declared.StopRule.{StopRule}
-use Rattle.polynom.specs.declared.Evaluated.{Evaluated}
-use Rattle.polynom.specs.declared.Evaluated.TheVariants.{At, NotFinite}
-use Rattle.polynom.specs.declared.EvaluatedBoth.{EvaluatedBoth}
-use Rattle.polynom.specs.declared.EvaluatedBoth.TheVariants.{Both, NotBothFinite}
+use Rattle.std.specs.Prelude.{Option, Some, None}
 use Rattle.polynom.specs.declared.ValueAndDerivative.{ValueAndDerivative}
 use Rattle.searching.specs.Programs.{Test, found, converged, flat, alike, tested, candidate, ruled, paired, stepped, log, Event, asked, asked_both, noted, Prog, Turned, stops, value_at, both_at, offered, pulled_into, bracketed, narrows_to, Oracle}
 use Rattle.searching.specs.Histories.{values_in, steps_in, mark_in}
@@ -123,10 +120,10 @@ module _ {Follows : Event → List Event → Type 0} where
   module _ {S : Type 0} {o : Oracle} {Inv : S → List Event → Type 0} {Gives : Float → Float → Float → List Event → Type 0} {h : List Event} where
     -- a value is asked for before the first pair: 9, or on with the sample
     pub opening_value :
-        {k : Sample → Prog (Turned S)} (x : Float) → ((e : Evaluated) → Follows (asked x e) h) → Opening Follows h →
-        ((p : Sample) → Opening Follows (asked x (At p) ∷ h) → Ends o (After Inv (Traced Follows Gives)) (k p) (asked x (At p) ∷ h)) →
+        {k : Sample → Prog (Turned S)} (x : Float) → ((e : Option Sample) → Follows (asked x e) h) → Opening Follows h →
+        ((p : Sample) → Opening Follows (asked x (Some p) ∷ h) → Ends o (After Inv (Traced Follows Gives)) (k p) (asked x (Some p) ∷ h)) →
         Ends o (After Inv (Traced Follows Gives)) (value_at x k) h
-    opening_value x l b f = ends_value x (λ n. traced_early (inr refl) tt (opening_on _ refl (l NotFinite) b)) (λ p n. f p (opening_on _ refl (l (At p)) b))
+    opening_value x l b f = ends_value x (λ n. traced_early (inr refl) tt (opening_on _ refl (l None) b)) (λ p n. f p (opening_on _ refl (l (Some p)) b))
 
     -- a stop test that is no sign test is made before the first pair
     pub opening_stops :
@@ -154,16 +151,16 @@ module _ {Follows : Event → List Event → Type 0} where
     -- the same with a pair
     module _ {i : Interval} where
       pub tracing_value :
-          {k : Sample → Prog (Turned S)} (x : Float) → ((e : Evaluated) → Follows (asked x e) h) → Tracing Follows i h →
-          ((p : Sample) → Tracing Follows i (asked x (At p) ∷ h) → Ends o (After Inv (Traced Follows Gives)) (k p) (asked x (At p) ∷ h)) →
+          {k : Sample → Prog (Turned S)} (x : Float) → ((e : Option Sample) → Follows (asked x e) h) → Tracing Follows i h →
+          ((p : Sample) → Tracing Follows i (asked x (Some p) ∷ h) → Ends o (After Inv (Traced Follows Gives)) (k p) (asked x (Some p) ∷ h)) →
           Ends o (After Inv (Traced Follows Gives)) (value_at x k) h
-      tracing_value x l t f = ends_value x (λ n. traced_end tt (tracing_on _ refl (l NotFinite) t)) (λ p n. f p (tracing_on _ refl (l (At p)) t))
+      tracing_value x l t f = ends_value x (λ n. traced_end tt (tracing_on _ refl (l None) t)) (λ p n. f p (tracing_on _ refl (l (Some p)) t))
 
       pub tracing_both :
-          {k : ValueAndDerivative → Prog (Turned S)} (x : Float) → ((e : EvaluatedBoth) → Follows (asked_both x e) h) → Tracing Follows i h →
-          ((v : ValueAndDerivative) → Tracing Follows i (asked_both x (Both v) ∷ h) → Ends o (After Inv (Traced Follows Gives)) (k v) (asked_both x (Both v) ∷ h)) →
+          {k : ValueAndDerivative → Prog (Turned S)} (x : Float) → ((e : Option ValueAndDerivative) → Follows (asked_both x e) h) → Tracing Follows i h →
+          ((v : ValueAndDerivative) → Tracing Follows i (asked_both x (Some v) ∷ h) → Ends o (After Inv (Traced Follows Gives)) (k v) (asked_both x (Some v) ∷ h)) →
           Ends o (After Inv (Traced Follows Gives)) (both_at x k) h
-      tracing_both x l t f = ends_both x (λ n. traced_end tt (tracing_on _ refl (l NotBothFinite) t)) (λ v n. f v (tracing_on _ refl (l (Both v)) t))
+      tracing_both x l t f = ends_both x (λ n. traced_end tt (tracing_on _ refl (l None) t)) (λ v n. f v (tracing_on _ refl (l (Some v)) t))
 
       pub tracing_stops :
           {f g : Prog (Turned S)} (stop : StopRule) (t : Test) → ((held : Bool) → plain (noted (tested t held)) ≡ true) → ((held : Bool) → Follows (noted (tested t held)) h) → Tracing Follows i h →

@@ -9,8 +9,7 @@ use Rattle.numerical.specs.declared.Answer.{Answer}
 use Rattle.numerical.specs.declared.Answer.TheVariants.{ByValue, ByWidth, Refused}
 use Rattle.numerical.specs.declared.Sample.{Sample}
 use Rattle.simple_convergency.specs.declared.StopRule.{StopRule}
-use Rattle.polynom.specs.declared.Evaluated.TheVariants.{At, NotFinite}
-use Rattle.polynom.specs.declared.EvaluatedBoth.TheVariants.{Both, NotBothFinite}
+use Rattle.std.specs.Prelude.{Some, None}
 use Rattle.searching.specs.Programs.{Test, found, converged, flat, alike, holds, tested, candidate, ruled, paired, stepped, Event, asked, asked_both, noted}
 use Rattle.searching.specs.Histories.{steps_in}
 use Rattle.searching.specs.Reasons.{Occurs, ends_run, some_ends, CalledFor, SignsHeld, FlatHeld, NoneHeld, NotFiniteIn, EvaluatedAt, Reason, by_value, by_width, by_middle, of_signs, of_flatness, of_limit, of_value, of_derivative, of_candidate, of_middle}
@@ -46,10 +45,10 @@ not-false true e = refl
 not-false false e = absurd (true≢false e)
 
 quiet_honest : (stop : StopRule) (e : Event) → ends_run stop e ≡ false → Honest stop e
-quiet_honest stop (asked x (At p)) q = not-false (finite x) q
-quiet_honest stop (asked x NotFinite) q = absurd (true≢false q)
-quiet_honest stop (asked_both x (Both v)) q = not-false (finite x) q
-quiet_honest stop (asked_both x NotBothFinite) q = absurd (true≢false q)
+quiet_honest stop (asked x (Some p)) q = not-false (finite x) q
+quiet_honest stop (asked x None) q = absurd (true≢false q)
+quiet_honest stop (asked_both x (Some v)) q = not-false (finite x) q
+quiet_honest stop (asked_both x None) q = absurd (true≢false q)
 quiet_honest stop (noted (tested t true)) q = absurd (true≢false q)
 quiet_honest stop (noted (tested t false)) q = sym q
 quiet_honest stop (noted (candidate x)) q = tt
@@ -86,8 +85,8 @@ says {stop = stop} {answer = answer} (by_middle {p = p} {q = q} {x = x} z f n g)
 says {stop = stop} {answer = answer} (of_signs {p = p} {q = q} t u f g) e = calling stop answer (noted (tested (alike p q) true)) (sym f) refl (before stop answer g.undecided)
 says {stop = stop} {answer = answer} (of_flatness {y = y} t f g) e = calling stop answer (noted (tested (flat y) true)) (sym f) refl (before stop answer g.undecided)
 says {stop = stop} {answer = answer} (of_limit s q) e = before stop answer q
-says {stop = stop} {answer = answer} (of_value {x = x} z n g) e = calling stop answer (asked x NotFinite) z refl (before stop answer g.undecided)
-says {stop = stop} {answer = answer} (of_derivative {x = x} z n g) e = calling stop answer (asked_both x NotBothFinite) z refl (before stop answer g.undecided)
+says {stop = stop} {answer = answer} (of_value {x = x} z n g) e = calling stop answer (asked x None) z refl (before stop answer g.undecided)
+says {stop = stop} {answer = answer} (of_derivative {x = x} z n g) e = calling stop answer (asked_both x None) z refl (before stop answer g.undecided)
 says {stop = stop} {answer = answer} (of_candidate {x = x} n g) e = calling stop answer (noted (candidate x)) tt refl (before stop answer g.undecided)
 says {stop = stop} {answer = answer} (of_middle {x = x} {p = p} {q = q} n f g) e =
     calling stop answer (noted (candidate x)) tt refl
@@ -156,8 +155,8 @@ module _ {a : List Float} {stop : StopRule} {most : ℕ} {answer : Answer} {h : 
 
   -- what isn't finite is refused with 9
   not_finite_nine : NotFiniteIn h → answer ≡ Refused 9
-  not_finite_nine (x, inl m) = decided r (asked x NotFinite) m refl
-  not_finite_nine (x, inr (inl m)) = decided r (asked_both x NotBothFinite) m refl
+  not_finite_nine (x, inl m) = decided r (asked x None) m refl
+  not_finite_nine (x, inr (inl m)) = decided r (asked_both x None) m refl
   not_finite_nine (x, inr (inr t)) = decided r (noted (candidate x)) t.0 (rw t.1 refl)
 
   pub exactly_six : (answer ≡ Refused 6) ↔ SignsHeld h

@@ -13,10 +13,7 @@ use Rattle.numerical.specs.declared.Progress.{Progress}
 use Rattle.numerical.specs.declared.Sample.{Sample}
 use Rattle.simple_convergency.specs.declared.StopRule.{StopRule}
 use Rattle.polynom.specs.declared.ValueAndDerivative.{ValueAndDerivative}
-use Rattle.polynom.specs.declared.Evaluated.{Evaluated}
-use Rattle.polynom.specs.declared.Evaluated.TheVariants.{At, NotFinite}
-use Rattle.polynom.specs.declared.EvaluatedBoth.{EvaluatedBoth}
-use Rattle.polynom.specs.declared.EvaluatedBoth.TheVariants.{Both, NotBothFinite}
+use Rattle.std.specs.Prelude.{Option, Some, None}
 use Rattle.searching.specs.Programs.{Test, holds, alike, Note, tested, candidate, ruled, paired, stepped, Prog, done, log, Turned, ended, next, bind, test, stops, sampled, sampled_both, value_at, both_at, offered, pulled_into, product_departs, bracketed, steps_to, narrows_to, run, searches, Oracle, Event, asked, asked_both, noted, play, tallied}
 use Rattle.searching.specs.Histories.{listed}
 use Rattle.searching.proofs.ProgramLaws.{play_bind, play_end}
@@ -58,27 +55,27 @@ pub ruleset branches = (ends_test, ends_stops)
 module _ {S : Type 0} {o : Oracle} {Q : Turned S → List Event → Type 0} {h : List Event} where
   pub ends_value :
       {k : Sample → Prog (Turned S)} (x : Float) →
-      (o.value x ≡ NotFinite → Q (ended (Refused 9)) (asked x NotFinite ∷ h)) →
-      ((p : Sample) → o.value x ≡ At p → Ends o Q (k p) (asked x (At p) ∷ h)) →
+      (o.value x ≡ None → Q (ended (Refused 9)) (asked x None ∷ h)) →
+      ((p : Sample) → o.value x ≡ Some p → Ends o Q (k p) (asked x (Some p) ∷ h)) →
       Ends o Q (value_at x k) h
   unfolding value_at sampled play
   ends_value {k} x p q = record { there = go (o.value x) refl }
     where
-      go : (e : Evaluated) → o.value x ≡ e → Q (play listed o (sampled e k) (asked x e ∷ h)).0 (play listed o (sampled e k) (asked x e ∷ h)).1
-      go NotFinite e = p e
-      go (At s) e = (q s e).there
+      go : (e : Option Sample) → o.value x ≡ e → Q (play listed o (sampled e k) (asked x e ∷ h)).0 (play listed o (sampled e k) (asked x e ∷ h)).1
+      go None e = p e
+      go (Some s) e = (q s e).there
 
   pub ends_both :
       {k : ValueAndDerivative → Prog (Turned S)} (x : Float) →
-      (o.both x ≡ NotBothFinite → Q (ended (Refused 9)) (asked_both x NotBothFinite ∷ h)) →
-      ((v : ValueAndDerivative) → o.both x ≡ Both v → Ends o Q (k v) (asked_both x (Both v) ∷ h)) →
+      (o.both x ≡ None → Q (ended (Refused 9)) (asked_both x None ∷ h)) →
+      ((v : ValueAndDerivative) → o.both x ≡ Some v → Ends o Q (k v) (asked_both x (Some v) ∷ h)) →
       Ends o Q (both_at x k) h
   unfolding both_at sampled_both play
   ends_both {k} x p q = record { there = go (o.both x) refl }
     where
-      go : (e : EvaluatedBoth) → o.both x ≡ e → Q (play listed o (sampled_both e k) (asked_both x e ∷ h)).0 (play listed o (sampled_both e k) (asked_both x e ∷ h)).1
-      go NotBothFinite e = p e
-      go (Both v) e = (q v e).there
+      go : (e : Option ValueAndDerivative) → o.both x ≡ e → Q (play listed o (sampled_both e k) (asked_both x e ∷ h)).0 (play listed o (sampled_both e k) (asked_both x e ∷ h)).1
+      go None e = p e
+      go (Some v) e = (q v e).there
 
   pub ends_offered :
       (k : Float → Prog (Turned S)) (x : Float) →

@@ -10,8 +10,7 @@ use Rattle.simple_convergency.specs.declared.StopRule.{StopRule}
 use Rattle.polynom.specs.Polynom.{value, value_and_derivative, evaluated, evaluated_both, sample_of}
 use Rattle.polynom.proofs.TermLaws.{same_value}
 use Rattle.polynom.specs.declared.ValueAndDerivative.{ValueAndDerivative}
-use Rattle.polynom.specs.declared.Evaluated.TheVariants.{At, NotFinite}
-use Rattle.polynom.specs.declared.EvaluatedBoth.TheVariants.{Both, NotBothFinite}
+use Rattle.std.specs.Prelude.{Some, None}
 use Rattle.searching.specs.Programs.{stepped, Event, noted}
 use Rattle.searching.specs.Histories.{steps_in, mark_in}
 use Rattle.searching.specs.Reasons.{some_ends, Going, Reason, of_limit, Standing, Unmarked, Plain}
@@ -21,47 +20,47 @@ use Rattle.searching.specs.ReasonLaws.{Answered}
 
 module _ (a : List Float) (x : Float) where
   -- a sample that was answered is at its point
-  pub answered_at : (p : Sample) → evaluated a x ≡ At p → p.x ≡ x
+  pub answered_at : (p : Sample) → evaluated a x ≡ Some p → p.x ≡ x
   unfolding evaluated
   answered_at p e = go (finite (value a x)) e
     where
-      go : (b : Bool) → cond b (At (sample_of x (value a x))) NotFinite ≡ At p → p.x ≡ x
+      go : (b : Bool) → cond b (Some (sample_of x (value a x))) None ≡ Some p → p.x ≡ x
       go true e = let s : sample_of x (value a x) ≡ p = cc in ap (λ (q : Sample). q.x) (sym s)
       go false e = absurd (let z : ◌≡◌ {A = ℕ} 0 1 = cc in omega arith)
 
   -- and its value is finite
-  pub answered_finite : (p : Sample) → evaluated a x ≡ At p → finite p.y ≡ true
+  pub answered_finite : (p : Sample) → evaluated a x ≡ Some p → finite p.y ≡ true
   unfolding evaluated
   answered_finite p e = go (finite (value a x)) refl e
     where
-      go : (b : Bool) → finite (value a x) ≡ b → cond b (At (sample_of x (value a x))) NotFinite ≡ At p → finite p.y ≡ true
+      go : (b : Bool) → finite (value a x) ≡ b → cond b (Some (sample_of x (value a x))) None ≡ Some p → finite p.y ≡ true
       go true f e = let s : sample_of x (value a x) ≡ p = cc in ap (λ (q : Sample). finite q.y) (sym s) ∙ f
       go false f e = absurd (let z : ◌≡◌ {A = ℕ} 0 1 = cc in omega arith)
 
-  pub answered : finite x ≡ true → (p : Sample) → evaluated a x ≡ At p → Answered a x p
+  pub answered : finite x ≡ true → (p : Sample) → evaluated a x ≡ Some p → Answered a x p
   unfolding evaluated
   answered g p e = go (finite (value a x)) refl e
     where
-      go : (b : Bool) → finite (value a x) ≡ b → cond b (At (sample_of x (value a x))) NotFinite ≡ At p → Answered a x p
+      go : (b : Bool) → finite (value a x) ≡ b → cond b (Some (sample_of x (value a x))) None ≡ Some p → Answered a x p
       go true f e =
           let s : sample_of x (value a x) ≡ p = cc in
           rw (← s) (record { at_point = refl; is_true = record { computed = refl; is_finite = f; point_finite = g } })
       go false f e = absurd (let z : ◌≡◌ {A = ℕ} 0 1 = cc in omega arith)
 
-  pub not_answered : evaluated a x ≡ NotFinite → finite (value a x) ≡ false
+  pub not_answered : evaluated a x ≡ None → finite (value a x) ≡ false
   unfolding evaluated
   not_answered e = go (finite (value a x)) e
     where
-      go : (b : Bool) → cond b (At (sample_of x (value a x))) NotFinite ≡ NotFinite → b ≡ false
+      go : (b : Bool) → cond b (Some (sample_of x (value a x))) None ≡ None → b ≡ false
       go true e = absurd (let z : ◌≡◌ {A = ℕ} 0 1 = cc in omega arith)
       go false e = refl
 
   -- a sample with its derivative
-  pub answered_both : finite x ≡ true → (v : ValueAndDerivative) → evaluated_both a x ≡ Both v → Answered a x v.value
+  pub answered_both : finite x ≡ true → (v : ValueAndDerivative) → evaluated_both a x ≡ Some v → Answered a x v.value
   unfolding evaluated_both
   answered_both g v e = go (finite (value_and_derivative a x).value.y) (finite (value_and_derivative a x).derivative) refl e
     where
-      go : (b c : Bool) → finite (value_and_derivative a x).value.y ≡ b → cond b (cond c (Both (value_and_derivative a x)) NotBothFinite) NotBothFinite ≡ Both v → Answered a x v.value
+      go : (b c : Bool) → finite (value_and_derivative a x).value.y ≡ b → cond b (cond c (Some (value_and_derivative a x)) None) None ≡ Some v → Answered a x v.value
       go true true f e =
           let s : value_and_derivative a x ≡ v = cc in
           let same : v.value ≡ sample_of x (value a x) = ap (λ (w : ValueAndDerivative). w.value) (sym s) ∙ same_value a x in
@@ -69,11 +68,11 @@ module _ (a : List Float) (x : Float) where
       go true false f e = absurd (let z : ◌≡◌ {A = ℕ} 0 1 = cc in omega arith)
       go false c f e = absurd (let z : ◌≡◌ {A = ℕ} 0 1 = cc in omega arith)
 
-  pub not_answered_both : evaluated_both a x ≡ NotBothFinite → finite (value_and_derivative a x).value.y ≡ true → finite (value_and_derivative a x).derivative ≡ false
+  pub not_answered_both : evaluated_both a x ≡ None → finite (value_and_derivative a x).value.y ≡ true → finite (value_and_derivative a x).derivative ≡ false
   unfolding evaluated_both
   not_answered_both e = go (finite (value_and_derivative a x).value.y) (finite (value_and_derivative a x).derivative) e
     where
-      go : (b c : Bool) → cond b (cond c (Both (value_and_derivative a x)) NotBothFinite) NotBothFinite ≡ NotBothFinite → b ≡ true → c ≡ false
+      go : (b c : Bool) → cond b (cond c (Some (value_and_derivative a x)) None) None ≡ None → b ≡ true → c ≡ false
       go true true e f = absurd (let z : ◌≡◌ {A = ℕ} 0 1 = cc in omega arith)
       go true false e f = refl
       go false c e f = absurd (let z : ◌≡◌ {A = ℕ} 0 1 = cc in omega arith)

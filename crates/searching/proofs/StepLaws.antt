@@ -14,10 +14,7 @@ use Rattle.numerical.specs.declared.Sample.{Sample}
 use Rattle.simple_convergency.specs.declared.StopRule.{StopRule}
 use Rattle.polynom.specs.Polynom.{evaluated, evaluated_both}
 use Rattle.polynom.specs.declared.ValueAndDerivative.{ValueAndDerivative}
-use Rattle.polynom.specs.declared.Evaluated.{Evaluated}
-use Rattle.polynom.specs.declared.Evaluated.TheVariants.{At, NotFinite}
-use Rattle.polynom.specs.declared.EvaluatedBoth.{EvaluatedBoth}
-use Rattle.polynom.specs.declared.EvaluatedBoth.TheVariants.{Both, NotBothFinite}
+use Rattle.std.specs.Prelude.{Option, Some, None}
 use Rattle.searching.specs.Programs.{Test, ruled, Prog, done, log, Turned, ended, next, test, holds, stops, sampled, sampled_both, value_at, both_at, offered, pulled_into, rising, product_departs, bracketed, steps_to, narrows_to, oracle, play, tallied}
 use Rattle.searching.specs.Rules.{placed_in, alike_by, in_order}
 use Rattle.searching.specs.declared.Placed.{Placed}
@@ -72,38 +69,38 @@ module _ {A : Type 0} (cs : List Float) (p : Progress) {r : A × Progress} where
 
 module _ {S : Type 0} (cs : List Float) (p : Progress) {r : Turned S × Progress} where
   pub by_value :
-      {q : Progress} {e : Evaluated} {s : Sample} (x : Float) (k : Sample → Prog (Turned S)) →
-      q ≡ valued_of p → e ≡ evaluated cs x → e ≡ At s → r ≡ play tallied (oracle cs) (k s) q → r ≡ play tallied (oracle cs) (value_at x k) p
+      {q : Progress} {e : Option Sample} {s : Sample} (x : Float) (k : Sample → Prog (Turned S)) →
+      q ≡ valued_of p → e ≡ evaluated cs x → e ≡ Some s → r ≡ play tallied (oracle cs) (k s) q → r ≡ play tallied (oracle cs) (value_at x k) p
   unfolding value_at sampled play
-  by_value x k q e s g = g ∙ rw q (ap (λ (v : Evaluated). play tallied (oracle cs) (sampled v k) (valued_of p)) (sym s ∙ e))
+  by_value x k q e s g = g ∙ rw q (ap (λ (v : Option Sample). play tallied (oracle cs) (sampled v k) (valued_of p)) (sym s ∙ e))
 
   pub by_no_value :
-      {q : Progress} {e : Evaluated} (x : Float) (k : Sample → Prog (Turned S)) →
-      q ≡ valued_of p → e ≡ evaluated cs x → e ≡ NotFinite → r ≡ (ended (Refused 9), q) → r ≡ play tallied (oracle cs) (value_at x k) p
+      {q : Progress} {e : Option Sample} (x : Float) (k : Sample → Prog (Turned S)) →
+      q ≡ valued_of p → e ≡ evaluated cs x → e ≡ None → r ≡ (ended (Refused 9), q) → r ≡ play tallied (oracle cs) (value_at x k) p
   unfolding value_at sampled play
-  by_no_value x k q e s g = g ∙ rw q (ap (λ (v : Evaluated). play tallied (oracle cs) (sampled v k) (valued_of p)) (sym s ∙ e))
+  by_no_value x k q e s g = g ∙ rw q (ap (λ (v : Option Sample). play tallied (oracle cs) (sampled v k) (valued_of p)) (sym s ∙ e))
 
   pub by_value_at :
-      {q : Progress} {e : Evaluated} {s : Sample} {y : Float} (x : Float) (k : Sample → Prog (Turned S)) →
-      q ≡ valued_of p → e ≡ evaluated cs y → e ≡ At s → y ≡ x → r ≡ play tallied (oracle cs) (k s) q → r ≡ play tallied (oracle cs) (value_at x k) p
+      {q : Progress} {e : Option Sample} {s : Sample} {y : Float} (x : Float) (k : Sample → Prog (Turned S)) →
+      q ≡ valued_of p → e ≡ evaluated cs y → e ≡ Some s → y ≡ x → r ≡ play tallied (oracle cs) (k s) q → r ≡ play tallied (oracle cs) (value_at x k) p
   by_value_at x k q e s y g = by_value x k q (e ∙ ap (evaluated cs) y) s g
 
   pub by_no_value_at :
-      {q : Progress} {e : Evaluated} {y : Float} (x : Float) (k : Sample → Prog (Turned S)) →
-      q ≡ valued_of p → e ≡ evaluated cs y → e ≡ NotFinite → y ≡ x → r ≡ (ended (Refused 9), q) → r ≡ play tallied (oracle cs) (value_at x k) p
+      {q : Progress} {e : Option Sample} {y : Float} (x : Float) (k : Sample → Prog (Turned S)) →
+      q ≡ valued_of p → e ≡ evaluated cs y → e ≡ None → y ≡ x → r ≡ (ended (Refused 9), q) → r ≡ play tallied (oracle cs) (value_at x k) p
   by_no_value_at x k q e s y g = by_no_value x k q (e ∙ ap (evaluated cs) y) s g
 
   pub by_both :
-      {q : Progress} {e : EvaluatedBoth} {s : ValueAndDerivative} (x : Float) (k : ValueAndDerivative → Prog (Turned S)) →
-      q ≡ sloped_of p → e ≡ evaluated_both cs x → e ≡ Both s → r ≡ play tallied (oracle cs) (k s) q → r ≡ play tallied (oracle cs) (both_at x k) p
+      {q : Progress} {e : Option ValueAndDerivative} {s : ValueAndDerivative} (x : Float) (k : ValueAndDerivative → Prog (Turned S)) →
+      q ≡ sloped_of p → e ≡ evaluated_both cs x → e ≡ Some s → r ≡ play tallied (oracle cs) (k s) q → r ≡ play tallied (oracle cs) (both_at x k) p
   unfolding both_at sampled_both play
-  by_both x k q e s g = g ∙ rw q (ap (λ (v : EvaluatedBoth). play tallied (oracle cs) (sampled_both v k) (sloped_of p)) (sym s ∙ e))
+  by_both x k q e s g = g ∙ rw q (ap (λ (v : Option ValueAndDerivative). play tallied (oracle cs) (sampled_both v k) (sloped_of p)) (sym s ∙ e))
 
   pub by_not_both :
-      {q : Progress} {e : EvaluatedBoth} (x : Float) (k : ValueAndDerivative → Prog (Turned S)) →
-      q ≡ sloped_of p → e ≡ evaluated_both cs x → e ≡ NotBothFinite → r ≡ (ended (Refused 9), q) → r ≡ play tallied (oracle cs) (both_at x k) p
+      {q : Progress} {e : Option ValueAndDerivative} (x : Float) (k : ValueAndDerivative → Prog (Turned S)) →
+      q ≡ sloped_of p → e ≡ evaluated_both cs x → e ≡ None → r ≡ (ended (Refused 9), q) → r ≡ play tallied (oracle cs) (both_at x k) p
   unfolding both_at sampled_both play
-  by_not_both x k q e s g = g ∙ rw q (ap (λ (v : EvaluatedBoth). play tallied (oracle cs) (sampled_both v k) (sloped_of p)) (sym s ∙ e))
+  by_not_both x k q e s g = g ∙ rw q (ap (λ (v : Option ValueAndDerivative). play tallied (oracle cs) (sampled_both v k) (sloped_of p)) (sym s ∙ e))
 
   pub by_offer :
       {f : Bool} {y : Float} (x : Float) (k : Float → Prog (Turned S)) →

@@ -6,9 +6,7 @@ use Rattle.numerical.specs.declared.Answer.{Answer}
 use Rattle.numerical.specs.declared.Answer.TheVariants.{ByValue, ByWidth, Refused}
 use Rattle.numerical.specs.declared.Interval.{Interval}
 use Rattle.numerical.specs.declared.Sample.{Sample}
-use Rattle.polynom.specs.declared.Evaluated.{Evaluated}
-use Rattle.polynom.specs.declared.Evaluated.TheVariants.{At}
-use Rattle.polynom.specs.declared.EvaluatedBoth.TheVariants.{Both}
+use Rattle.std.specs.Prelude.{Option, Some}
 use Rattle.polynom.specs.declared.ValueAndDerivative.{ValueAndDerivative}
 use Rattle.searching.specs.Programs.{found, converged, flat, alike, tested, candidate, ruled, paired, stepped, Event, asked, asked_both, noted}
 use Rattle.searching.specs.Histories.{steps_in}
@@ -79,15 +77,15 @@ Tried h = (e : Event) × (older : List Event) × (evaluated_since h ≡ e ∷ ol
 
 -- p is the sample that the newest evaluation answered
 abbrev pub Sampled : Sample → List Event → Type 0
-Sampled p h = (x : Float) × (older : List Event) × (evaluations_in h ≡ asked x (At p) ∷ older)
+Sampled p h = (x : Float) × (older : List Event) × (evaluations_in h ≡ asked x (Some p) ∷ older)
 
 -- v is the value with its derivative that the newest evaluation answered
 abbrev pub SampledBoth : ValueAndDerivative → List Event → Type 0
-SampledBoth v h = (x : Float) × (older : List Event) × (evaluations_in h ≡ asked_both x (Both v) ∷ older)
+SampledBoth v h = (x : Float) × (older : List Event) × (evaluations_in h ≡ asked_both x (Some v) ∷ older)
 
 -- the two newest evaluations answered p, and then q
 abbrev pub SampledTwo : Sample → Sample → List Event → Type 0
-SampledTwo p q h = (x : Float) × (z : Float) × (older : List Event) × (evaluations_in h ≡ asked z (At q) ∷ asked x (At p) ∷ older)
+SampledTwo p q h = (x : Float) × (z : Float) × (older : List Event) × (evaluations_in h ≡ asked z (Some q) ∷ asked x (Some p) ∷ older)
 
 -- x is the point of the sample that the newest evaluation answered
 abbrev pub LastPoint : Float → List Event → Type 0
@@ -101,7 +99,7 @@ AtFirst first x h = (evaluations_in h ≡ []) × (x ≡ first)
 
 -- the first start alone was evaluated before, and x is the second
 abbrev pub AtSecond : Float → Float → Float → List Event → Type 0
-AtSecond first second x h = (e : Evaluated) × (evaluations_in h ≡ asked first e ∷ []) × (x ≡ second)
+AtSecond first second x h = (e : Option Sample) × (evaluations_in h ≡ asked first e ∷ []) × (x ≡ second)
 
 -- "Starts are ordered, smaller first; equal ones keep their order"
 abbrev pub lower_of : Float → Float → Float
@@ -112,7 +110,7 @@ upper_of from to = cond (lt to from) from to
 
 -- p and q are the samples at the two starts, in either order, and there was no evaluation but theirs
 abbrev pub OfStarts : Sample → Sample → List Event → Type 0
-OfStarts p q h = (x : Float) × (z : Float) × ((evaluations_in h ≡ asked z (At q) ∷ asked x (At p) ∷ []) ⊎ (evaluations_in h ≡ asked z (At p) ∷ asked x (At q) ∷ []))
+OfStarts p q h = (x : Float) × (z : Float) × ((evaluations_in h ≡ asked z (Some q) ∷ asked x (Some p) ∷ []) ⊎ (evaluations_in h ≡ asked z (Some p) ∷ asked x (Some q) ∷ []))
 
 -- p is an end of the newest pair
 abbrev pub EndOf : Sample → List Event → Type 0
@@ -128,11 +126,11 @@ PulledNow x h = (i : Interval) × (c : Float) × Newest i h × Untried c h × (x
 
 -- p alone was evaluated since the newest candidate
 abbrev pub Answered : Sample → List Event → Type 0
-Answered p h = (x : Float) × (evaluated_since h ≡ asked x (At p) ∷ [])
+Answered p h = (x : Float) × (evaluated_since h ≡ asked x (Some p) ∷ [])
 
 -- v alone was worked out since the newest candidate
 abbrev pub AnsweredBoth : ValueAndDerivative → List Event → Type 0
-AnsweredBoth v h = (x : Float) × (evaluated_since h ≡ asked_both x (Both v) ∷ [])
+AnsweredBoth v h = (x : Float) × (evaluated_since h ≡ asked_both x (Some v) ∷ [])
 
 -- i is the newest pair with p in the place of one of its ends
 abbrev pub Replaced : Sample → Interval → List Event → Type 0

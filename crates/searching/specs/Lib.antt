@@ -4,6 +4,7 @@ pub mod Rules
 pub mod Histories
 pub mod Bounds
 pub mod Loops
+pub mod Turns
 -- what is promised of every history, and the words of the rules by which a method keeps it
 pub mod Reasons
 pub mod ReasonLaws

@@ -16,10 +16,7 @@ use Rattle.simple_convergency.specs.Stop.{found_at, flat_at, converged_at}
 use Rattle.simple_convergency.specs.declared.StopRule.{StopRule}
 use Rattle.polynom.specs.Polynom.{evaluated, evaluated_both}
 use Rattle.polynom.specs.declared.ValueAndDerivative.{ValueAndDerivative}
-use Rattle.polynom.specs.declared.Evaluated.{Evaluated}
-use Rattle.polynom.specs.declared.Evaluated.TheVariants.{At, NotFinite}
-use Rattle.polynom.specs.declared.EvaluatedBoth.{EvaluatedBoth}
-use Rattle.polynom.specs.declared.EvaluatedBoth.TheVariants.{Both, NotBothFinite}
+use Rattle.std.specs.Prelude.{Option, Some, None}
 
 -- ---- what a program notes
 
@@ -57,8 +54,8 @@ pub data Note : Type 0 where
 -- a program ends, asks for a value or for a value with its derivative and goes on with the answer, or notes something and goes on
 pub data Prog (A : Type 0) : Type 0 where
   done : A → Prog A
-  ask : Float → (Evaluated → Prog A) → Prog A
-  ask_both : Float → (EvaluatedBoth → Prog A) → Prog A
+  ask : Float → (Option Sample → Prog A) → Prog A
+  ask_both : Float → (Option ValueAndDerivative → Prog A) → Prog A
   log : Note → Prog A → Prog A
 
 -- where a turn of a search leaves it: at an answer, or at the next state
@@ -94,13 +91,13 @@ abbrev pub by_value : {S : Type 0} → Sample → Prog (Turned S)
 by_value p = done (ended (ByValue p.x p.y))
 
 -- "A run stops at once when an evaluation answers refusal 9 in place of a sample"
-unfoldable pub sampled : {S : Type 0} → Evaluated → (Sample → Prog (Turned S)) → Prog (Turned S)
-sampled NotFinite k = refuses 9
-sampled (At p) k = k p
+unfoldable pub sampled : {S : Type 0} → Option Sample → (Sample → Prog (Turned S)) → Prog (Turned S)
+sampled None k = refuses 9
+sampled (Some p) k = k p
 
-unfoldable pub sampled_both : {S : Type 0} → EvaluatedBoth → (ValueAndDerivative → Prog (Turned S)) → Prog (Turned S)
-sampled_both NotBothFinite k = refuses 9
-sampled_both (Both v) k = k v
+unfoldable pub sampled_both : {S : Type 0} → Option ValueAndDerivative → (ValueAndDerivative → Prog (Turned S)) → Prog (Turned S)
+sampled_both None k = refuses 9
+sampled_both (Some v) k = k v
 
 -- asks for the value at x, and goes on with the sample
 unfoldable pub value_at : {S : Type 0} → Float → (Sample → Prog (Turned S)) → Prog (Turned S)
@@ -169,16 +166,16 @@ searches opening turns turn = bind opening (λ r. run turn (turns r) r)
 
 -- who answers
 pub record Oracle : Type 0 where
-  pub value : Float → Evaluated
-  pub both : Float → EvaluatedBoth
+  pub value : Float → Option Sample
+  pub both : Float → Option ValueAndDerivative
 
 abbrev pub oracle : List Float → Oracle
 oracle a = record { value = evaluated a; both = evaluated_both a }
 
 -- what a history holds: what was asked for with its answer, and what was noted
 pub data Event : Type 0 where
-  asked : Float → Evaluated → Event
-  asked_both : Float → EvaluatedBoth → Event
+  asked : Float → Option Sample → Event
+  asked_both : Float → Option ValueAndDerivative → Event
   noted : Note → Event
 
 -- a program is played against an oracle, and every event is entered into a book of any kind

@@ -12,10 +12,8 @@ use Rattle.numerical.specs.declared.Sample.{Sample}
 use Rattle.simple_convergency.specs.Stop.{found_at, flat_at, converged_at}
 use Rattle.simple_convergency.specs.declared.StopRule.{StopRule}
 use Rattle.polynom.specs.Polynom.{value, value_and_derivative}
-use Rattle.polynom.specs.declared.Evaluated.{Evaluated}
-use Rattle.polynom.specs.declared.Evaluated.TheVariants.{At, NotFinite}
-use Rattle.polynom.specs.declared.EvaluatedBoth.{EvaluatedBoth}
-use Rattle.polynom.specs.declared.EvaluatedBoth.TheVariants.{Both, NotBothFinite}
+use Rattle.polynom.specs.declared.ValueAndDerivative.{ValueAndDerivative}
+use Rattle.std.specs.Prelude.{Option, Some, None}
 use Rattle.searching.specs.Programs.{Test, found, converged, flat, alike, holds, tested, candidate, ruled, paired, stepped, Event, asked, asked_both, noted}
 use Rattle.searching.specs.Histories.{steps_in, mark_in}
 
@@ -27,10 +25,10 @@ Occurs e h = Memᴰ e h
 
 -- a stop test that held, as noted or by the numbers compared; a value, a derivative or a candidate that isn't finite, or a point evaluated that isn't
 abbrev pub ends_run : StopRule → Event → Bool
-ends_run stop (asked x (At p)) = not (finite x)
-ends_run stop (asked x NotFinite) = true
-ends_run stop (asked_both x (Both v)) = not (finite x)
-ends_run stop (asked_both x NotBothFinite) = true
+ends_run stop (asked x (Some p)) = not (finite x)
+ends_run stop (asked x None) = true
+ends_run stop (asked_both x (Some v)) = not (finite x)
+ends_run stop (asked_both x None) = true
 ends_run stop (noted (tested t held)) = cond held true (holds stop t)
 ends_run stop (noted (candidate x)) = not (finite x)
 ends_run stop (noted (ruled rule departed)) = false
@@ -71,11 +69,11 @@ NoneHeld stop h = (t : Test) (held : Bool) → Occurs (noted (tested t held)) h 
 
 -- a value at x, a value or its derivative at x, or a candidate x isn't finite
 abbrev pub NotFiniteIn : List Event → Type 0
-NotFiniteIn h = (x : Float) × (Occurs (asked x NotFinite) h ⊎ Occurs (asked_both x NotBothFinite) h ⊎ (Occurs (noted (candidate x)) h × (finite x ≡ false)))
+NotFiniteIn h = (x : Float) × (Occurs (asked x None) h ⊎ Occurs (asked_both x None) h ⊎ (Occurs (noted (candidate x)) h × (finite x ≡ false)))
 
 -- a value, or a value with its derivative, was asked for at x
 abbrev pub EvaluatedAt : Float → List Event → Type 0
-EvaluatedAt x h = ((e : Evaluated) × Occurs (asked x e) h) ⊎ ((e : EvaluatedBoth) × Occurs (asked_both x e) h)
+EvaluatedAt x h = ((e : Option Sample) × Occurs (asked x e) h) ⊎ ((e : Option ValueAndDerivative) × Occurs (asked_both x e) h)
 
 -- ---- the reason of an answer
 
@@ -122,10 +120,10 @@ pub data Reason (a : List Float) (stop : StopRule) (most : ℕ) : Answer → Lis
   -- 9: a value, a value or its derivative, or a candidate is not finite
   of_value :
       {x : Float} {h : List Event} → finite x ≡ true → finite (value a x) ≡ false → Going stop most h →
-      Reason a stop most (Refused 9) (asked x NotFinite ∷ h)
+      Reason a stop most (Refused 9) (asked x None ∷ h)
   of_derivative :
       {x : Float} {h : List Event} → finite x ≡ true → (finite (value_and_derivative a x).value.y ≡ true → finite (value_and_derivative a x).derivative ≡ false) → Going stop most h →
-      Reason a stop most (Refused 9) (asked_both x NotBothFinite ∷ h)
+      Reason a stop most (Refused 9) (asked_both x None ∷ h)
   of_candidate :
       {x : Float} {h : List Event} → finite x ≡ false → Going stop most h →
       Reason a stop most (Refused 9) (noted (candidate x) ∷ h)

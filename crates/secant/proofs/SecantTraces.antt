@@ -3,7 +3,7 @@ use Rattle.std.specs.Prelude.{List, [], ◌∷◌, ◌≡◌, Float}
 use Rattle.std.proofs.Common.{inl, inr}
 use Rattle.std.proofs.Math.Path.{refl}
 use Rattle.numerical.specs.declared.Sample.{Sample}
-use Rattle.polynom.specs.declared.Evaluated.TheVariants.{At}
+use Rattle.std.specs.Prelude.{Some}
 use Rattle.simple_convergency.specs.declared.StopRule.{StopRule}
 use Rattle.searching.specs.Programs.{oracle, Event, asked, Prog, Turned}
 use Rattle.searching.specs.Events.{evaluations_in, candidates_in, evaluated_since, Untried, Tried, SampledTwo, LastPoint, Each, Ordered}
@@ -25,16 +25,16 @@ module _ (a : List Float) (stop : StopRule) (first second : Float) where
   Reaches g h = Ends (oracle a) (After Inv (Ordered (Follows first second) Gives)) g h
 
   -- ---- the opening
-  traces_second : (p q : Sample) (h : List Event) → evaluations_in h ≡ asked second (At q) ∷ asked first (At p) ∷ [] → Tried h → Orders h → Reaches (second_at stop p q) h
+  traces_second : (p q : Sample) (h : List Event) → evaluations_in h ≡ asked second (Some q) ∷ asked first (Some p) ∷ [] → Tried h → Orders h → Reaches (second_at stop p q) h
   unfolding second_at evaluations_in evaluated_since
   traces_second p q h l t o = ends_stops stop _ (λ e. ends_done (record { each = ((second, _, l), o); width = tt })) (λ e. ends_done (((second, _, l), o), (first, second, _, l), t))
 
-  traces_first : (p : Sample) (h : List Event) → evaluations_in h ≡ asked first (At p) ∷ [] → Orders h → Reaches (first_at stop second p) h
+  traces_first : (p : Sample) (h : List Event) → evaluations_in h ≡ asked first (Some p) ∷ [] → Orders h → Reaches (first_at stop second p) h
   unfolding first_at evaluations_in evaluated_since
   traces_first p h l o =
       ends_stops stop _ (λ e. ends_done (record { each = ((first, _, l), o); width = tt }))
-      (λ e. ends_value second (λ n. record { each = (inr (inl (At p, l, refl)), ((first, _, l), o)); width = tt })
-      (λ q n. traces_second p q _ (rw l refl) (_, _, refl) (inr (inl (At p, l, refl)), ((first, _, l), o))))
+      (λ e. ends_value second (λ n. record { each = (inr (inl (Some p, l, refl)), ((first, _, l), o)); width = tt })
+      (λ q n. traces_second p q _ (rw l refl) (_, _, refl) (inr (inl (Some p, l, refl)), ((first, _, l), o))))
 
   pub traces_opening : Reaches (opening stop first second) []
   unfolding opening evaluations_in
@@ -50,4 +50,4 @@ module _ (a : List Float) (stop : StopRule) (first second : Float) where
         (λ e. ends_value x (λ n. record { each = (inr (inr k), ((k.0, last), o)); width = tt })
         (λ p n. ends_stops stop _
         (λ f. ends_done (record { each = ((x, _, refl), (inr (inr k), ((k.0, last), o))); width = tt }))
-        (λ f. ends_steps _ (((p, (x, rw k.1 refl)), ((x, _, refl), (inr (inr k), ((k.0, last), o)))), (v, x, asked u (At s.first) ∷ older, rw l refl), (_, _, refl)))))
+        (λ f. ends_steps _ (((p, (x, rw k.1 refl)), ((x, _, refl), (inr (inr k), ((k.0, last), o)))), (v, x, asked u (Some s.first) ∷ older, rw l refl), (_, _, refl)))))

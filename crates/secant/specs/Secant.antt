@@ -5,15 +5,11 @@ use Rattle.std.specs.Float.Ieee.{sub, mul, div}
 use Rattle.numerical.specs.declared.Answer.{Answer}
 use Rattle.numerical.specs.declared.Answer.TheVariants.{ByWidth}
 use Rattle.numerical.specs.declared.Outcome.{Outcome}
-use Rattle.numerical.specs.declared.Progress.{Progress}
 use Rattle.numerical.specs.declared.Sample.{Sample}
 use Rattle.simple_convergency.specs.Stop.{turns_of}
 use Rattle.simple_convergency.specs.declared.StopRule.{StopRule}
 use Rattle.searching.specs.Programs.{found, converged, flat, Prog, done, Turned, ended, next, stops, answers, refuses, by_value, value_at, offered, steps_to, searches, answer_of}
 use Rattle.secant.specs.declared.Secant.{Secant}
-use Rattle.secant.specs.declared.To.{To}
-use Rattle.secant.specs.declared.To.TheVariants.{Ended, Next}
-use Rattle.secant.specs.declared.Turn.{Turn}
 
 -- ---- the opening: "Found is tested on the first point before the second is evaluated"
 
@@ -68,12 +64,3 @@ secant_program stop first second = searches (opening stop first second) (λ r. t
 
 unfoldable pub secant : List Float → StopRule → Float → Float → Outcome
 secant a stop first second = answer_of a (secant_program stop first second)
-
--- ---- what a turn of the code stands for
-
-abbrev pub seen : To → Turned Secant
-seen (Ended a) = ended a
-seen (Next s) = next s
-
-abbrev pub viewed : Turn → Turned Secant × Progress
-viewed t = (seen t.to, t.progress)

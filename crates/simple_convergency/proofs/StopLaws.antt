@@ -13,8 +13,9 @@ use Rattle.doubles.proofs.Sizes.{not_small}
 use Rattle.simple_convergency.specs.Stop.{least_tolerance, least_power, greatest_limit, bad_tolerance, either_bad, checked_of, found_at}
 use Rattle.simple_convergency.specs.declared.StopRule.{StopRule}
 use Rattle.simple_convergency.specs.declared.Tolerances.{Tolerances}
-use Rattle.simple_convergency.specs.declared.Checked.{Checked}
-use Rattle.simple_convergency.specs.declared.Checked.TheVariants.{Rule, Refused}
+use Rattle.std.specs.Prelude.{Result, Ok, Err}
+use Rattle.simple_convergency.specs.declared.BadRule.{BadRule}
+use Rattle.simple_convergency.specs.declared.BadRule.TheVariants.{Tolerance, Limit}
 use Rattle.simple_convergency.specs.StopLaws.{Good, Passed}
 
 -- the least tolerance is 1 * 2 ^ -300
@@ -51,27 +52,27 @@ point_bad t e h = rw (← e, h) (go (bad_tolerance t.value))
 none_bad : (t : Tolerances) {f g : Bool} → f ≡ bad_tolerance t.value → f ≡ false → g ≡ bad_tolerance t.point → g ≡ false → either_bad t ≡ false
 none_bad t v x p y = good_both (record { of_values = sym v ∙ x; of_points = sym p ∙ y })
 
-module _ (t : Tolerances) (limit : ℕ) {r : Checked} where
-  pub tolerance_refused : either_bad t ≡ true → r ≡ Refused 4 → r ≡ checked_of t limit
+module _ (t : Tolerances) (limit : ℕ) {r : Result StopRule BadRule} where
+  pub tolerance_refused : either_bad t ≡ true → r ≡ Err Tolerance → r ≡ checked_of t limit
   unfolding checked_of
   tolerance_refused e k = rw e k
 
   -- where neither is
   module _ {f g : Bool} (v : f ≡ bad_tolerance t.value) (x : f ≡ false) (p : g ≡ bad_tolerance t.point) (y : g ≡ false) where
-    pub limit_refused : greatest_limit < limit → r ≡ Refused 5 → r ≡ checked_of t limit
+    pub limit_refused : greatest_limit < limit → r ≡ Err Limit → r ≡ checked_of t limit
     unfolding checked_of
     limit_refused h k = rw (none_bad t v x p y, lt-ltb greatest_limit limit h) k
 
-    pub rule_given : limit ≤ greatest_limit → r ≡ Rule (record { tolerances = t; limit = limit }) → r ≡ checked_of t limit
+    pub rule_given : limit ≤ greatest_limit → r ≡ Ok (record { tolerances = t; limit = limit }) → r ≡ checked_of t limit
     unfolding checked_of
     rule_given h k = rw (none_bad t v x p y, le-ltb greatest_limit limit h) k
 
-pub passed : (tolerances : Tolerances) (limit : ℕ) (stop : StopRule) → checked_of tolerances limit ≡ Rule stop → Passed tolerances limit stop
+pub passed : (tolerances : Tolerances) (limit : ℕ) (stop : StopRule) → checked_of tolerances limit ≡ Ok stop → Passed tolerances limit stop
 unfolding checked_of
 passed tolerances limit stop e = go (either_bad tolerances) (ltb greatest_limit limit) refl refl e
   where
     go :
-        (b c : Bool) → either_bad tolerances ≡ b → ltb greatest_limit limit ≡ c → cond b (Refused 4) (cond c (Refused 5) (Rule (record { tolerances = tolerances; limit = limit }))) ≡ Rule stop →
+        (b c : Bool) → either_bad tolerances ≡ b → ltb greatest_limit limit ≡ c → cond b (Err Tolerance) (cond c (Err Limit) (Ok (record { tolerances = tolerances; limit = limit }))) ≡ Ok stop →
         Passed tolerances limit stop
     go true c p q e = absurd (let z : ◌≡◌ {A = ℕ} 0 1 = cc in omega arith)
     go false true p q e = absurd (let z : ◌≡◌ {A = ℕ} 0 1 = cc in omega arith)

@@ -1,13 +1,13 @@
 -- The stop rule: its constants, which rules there are, and its tests. Definitions only.
-use Rattle.std.specs.Prelude.{ℕ, max, Bool, true, cond, ltb, Float}
+use Rattle.std.specs.Prelude.{ℕ, max, Bool, true, cond, ltb, Float, Result, Ok, Err}
 use Rattle.std.specs.Float.{binary64}
 use Rattle.std.specs.Float.Ieee.{of_bits, lt, sub}
 use Rattle.std.specs.Float.Ieee.Scale.{finite}
 use Rattle.doubles.specs.Doubles.{absolute}
 use Rattle.simple_convergency.specs.declared.StopRule.{StopRule}
 use Rattle.simple_convergency.specs.declared.Tolerances.{Tolerances}
-use Rattle.simple_convergency.specs.declared.Checked.{Checked}
-use Rattle.simple_convergency.specs.declared.Checked.TheVariants.{Rule, Refused}
+use Rattle.simple_convergency.specs.declared.BadRule.{BadRule}
+use Rattle.simple_convergency.specs.declared.BadRule.TheVariants.{Tolerance, Limit}
 
 -- "The stop rule owns its constants: least tolerance 2^-300, greatest limit 400, most coefficients 16"
 abbrev pub least_tolerance : Float
@@ -42,12 +42,17 @@ bad_tolerance tolerance = cond (finite tolerance) (lt tolerance least_tolerance)
 unfoldable pub either_bad : Tolerances → Bool
 either_bad tolerances = cond (bad_tolerance tolerances.value) true (bad_tolerance tolerances.point)
 
+-- the number of each among the refusals: 4 for a tolerance, 5 for the limit
+abbrev pub bad_rule_number : BadRule → ℕ
+bad_rule_number Tolerance = 4
+bad_rule_number Limit = 5
+
 -- a rule, or refusal 4 for its tolerances, or else refusal 5 for its limit
-unfoldable pub checked_of : Tolerances → ℕ → Checked
+unfoldable pub checked_of : Tolerances → ℕ → Result StopRule BadRule
 checked_of tolerances limit =
-    cond (either_bad tolerances) (Refused 4)
-    (cond (ltb greatest_limit limit) (Refused 5)
-    (Rule (record { tolerances = tolerances; limit = limit })))
+    cond (either_bad tolerances) (Err Tolerance)
+    (cond (ltb greatest_limit limit) (Err Limit)
+    (Ok (record { tolerances = tolerances; limit = limit })))
 
 -- "'Found' means |y| < the value tolerance": strictly
 unfoldable pub found_at : StopRule → Float → Bool

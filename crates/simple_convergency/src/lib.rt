@@ -3,7 +3,7 @@
 #![tactic(auto)]
 
 ghost use Rattle.std.specs.Prelude.{◌≡◌};
-ghost use Rattle.simple_convergency.specs.Stop.{bad_tolerance, one_eps, checked_of, found_at, flat_at, converged_at, turns_of};
+ghost use Rattle.simple_convergency.specs.Stop.{bad_rule_number, bad_tolerance, one_eps, checked_of, found_at, flat_at, converged_at, turns_of};
 
 // How close to zero a value must be, and how close to each other two points must be.
 #[derive(Clone, Copy)]
@@ -19,11 +19,23 @@ pub struct StopRule {
     pub limit: u64,
 }
 
-// A rule that passed its check, or the refusal's number.
-#[derive(Clone, Copy)]
-pub enum Checked {
-    Rule(StopRule),
-    Refused(u8),
+// Why a rule is refused.
+#[derive(Clone, Copy, Debug, PartialEq, Eq)]
+pub enum BadRule {
+    Tolerance,
+    Limit,
+}
+
+impl BadRule {
+    // Its number among the refusals of a search.
+    pub fn number(self) -> u8
+        ensures { result ≡ bad_rule_number self }
+    {
+        match self {
+            BadRule::Tolerance => 4,
+            BadRule::Limit => 5,
+        }
+    }
 }
 
 // Whether a tolerance is not finite or below the least.
@@ -60,20 +72,20 @@ impl StopRule {
     // The limit of a rule that is given as one eps alone.
     pub const PLAIN_LIMIT: u64 = 30;
 
-    // The rule, or 4 for either tolerance, or else 5 for its limit.
-    pub fn checked(tolerances: Tolerances, limit: u64) -> Checked
+    // The rule, or what is wrong with it: either tolerance comes before the limit.
+    pub fn checked(tolerances: Tolerances, limit: u64) -> Result<StopRule, BadRule>
         ensures { result ≡ checked_of tolerances limit }
     {
         if is_bad_tolerance(tolerances.value) {
-            return Checked::Refused(4);
+            return Err(BadRule::Tolerance);
         }
         if is_bad_tolerance(tolerances.point) {
-            return Checked::Refused(4);
+            return Err(BadRule::Tolerance);
         }
         if StopRule::GREATEST_LIMIT < limit {
-            return Checked::Refused(5);
+            return Err(BadRule::Limit);
         }
-        Checked::Rule(StopRule { tolerances, limit })
+        Ok(StopRule { tolerances, limit })
     }
 
     // Whether the value y is close enough to zero.
@@ -101,7 +113,6 @@ impl StopRule {
     pub fn turns(self) -> u64
         ensures { result ≡ turns_of self }
     {
-        let limit = self.limit;
-        if limit == 0 { 1 } else { limit }
+        self.limit.max(1)
     }
 }

@@ -10,7 +10,6 @@ ghost use Rattle.searching.specs.Loops.{Ample, run_of};
 ghost use Rattle.walking.specs.Walking.{seen_at, turn_from, walking, viewed};
 
 use numerical::{Answer, Outcome, Progress, Sample};
-use polynom::Evaluated;
 use simple_convergency::StopRule;
 
 // Where a turn leads: to the walk's end, or to the next point.
@@ -72,7 +71,7 @@ fn take_turn(a: &[f64], stop: StopRule, x: f64, p: Progress) -> Turn
 {
     let counted = p.valued();
     let e = polynom::evaluate(a, x);
-    let Evaluated::At(s) = e else {
+    let Some(s) = e else {
         return ended(Answer::Refused(9), counted);
     };
     seen_at(stop, s, counted)

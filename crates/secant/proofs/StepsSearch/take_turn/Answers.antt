@@ -1,6 +1,6 @@
 use Rattle.searching.proofs.StepLaws.{steps}
 use Rattle.secant.specs.Secant.{turn_from}
-use Rattle.secant.proofs.take_turn.Goals as goal
+use Rattle.secant.proofs.StepsSearch.take_turn.Goals as goal
 
 pub returns-then-flat : goal.returns-then-flat
 unfolding turn_from
