@@ -1,5 +1,6 @@
 -- Laws of the sums: a coefficient more at a time, and that the value's bits are the same beside the derivative.
-use Rattle.std.specs.Prelude.{false, ◌≡◌, refl, List, [], ◌∷◌, ℕ, suc, ◌+◌, ◌-◌, ◌≤◌, ◌<◌, length, drop, get_or, T, Float}
+use Rattle.std.proofs.lemmas.List.{append_assoc}
+use Rattle.std.specs.Prelude.{false, ◌≡◌, refl, List, [], ◌∷◌, ◌++◌, ℕ, suc, ◌+◌, ◌<◌, length, drop, get_or, T, Float}
 use Rattle.std.proofs.Common.{ap, ◌∙◌, arith, drop-cons}
 use Rattle.std.proofs.Math.Seq.{drop-length}
 use Rattle.std.specs.Float.{nan, binary64}
@@ -8,13 +9,7 @@ use Rattle.std.specs.Float.Ieee.Fits.{add-fits, mul-fits}
 use Rattle.doubles.specs.Sums.{minus_zero}
 use Rattle.doubles.proofs.Sums.{sum_not_minus}
 use Rattle.polynom.specs.declared.Sum.{Sum}
-use Rattle.polynom.specs.Polynom.{nothing_summed, summed, sums, whole, value, Sums, nothing_summed_both, summed_both, sums_both, value_and_derivative}
-
--- what is left from i - 1 on is the coefficient there and what is left from i on
-drop_one : (a : List Float) (i : ℕ) → 0 < i → i ≤ length a → drop (i - 1) a ≡ get_or a (i - 1) nan ∷ drop i a
-drop_one a i p h =
-    let e : suc (i - 1) ≡ i = omega arith in
-    drop-cons a (i - 1) nan (omega arith) ∙ ap (λ (n : ℕ). get_or a (i - 1) nan ∷ drop n a) e
+use Rattle.polynom.specs.Polynom.{nothing_summed, summed, sums, whole, value, sums_both, value_and_derivative}
 
 pub sums_none : (a : List Float) (x : Float) (n : ℕ) → n ≡ length a → sums (drop n a) x ≡ nothing_summed
 unfolding sums
@@ -28,13 +23,9 @@ pub sums_more : (a : List Float) (x : Float) (i : ℕ) (s : Sum) → i < length 
 unfolding sums
 sums_more a x i s h e = rw (drop-cons a i nan h, sums_at a x (1 + i) (suc i) (omega arith) e)
 
-pub sums_both_none : (a : List Float) (x : Float) → sums_both (drop (length a) a) x ≡ nothing_summed_both
-unfolding sums_both
-sums_both_none a x = rw drop-length
-
-pub sums_both_more : (a : List Float) (x : Float) (i : ℕ) (s : Sums) → 0 < i → i ≤ length a → sums_both (drop i a) x ≡ s → sums_both (drop (i - 1) a) x ≡ summed_both x (get_or a (i - 1) nan) s
-unfolding sums_both
-sums_both_more a x i s p h e = rw (drop_one a i p h, e)
+-- where the last of what is left goes over to what was passed
+pub behind : (a left passed : List Float) (x : Float) (fewer : List Float) → a ≡ left ++ passed → left ≡ fewer ++ x ∷ [] → a ≡ fewer ++ x ∷ passed
+behind a left passed x fewer e f = e ∙ rw f (append_assoc fewer (x ∷ []) passed)
 
 same_sum : (a : List Float) (x : Float) → (sums_both a x).sum ≡ sums a x
 unfolding sums_both sums

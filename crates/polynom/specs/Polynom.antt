@@ -1,7 +1,7 @@
 -- The polynomial x^n + a[0]x^(n-1) + .. + a[n-1]: its value and derivative, every sum and product in the Rust's order. Definitions only.
 use Rattle.std.specs.Prelude.{cond, List, [], ◌∷◌, Float}
 use Rattle.std.specs.Float.{binary64}
-use Rattle.std.specs.Float.Ieee.{of_bits, add, mul}
+use Rattle.std.specs.Float.Ieee.{of_bits, add, sub, mul, div}
 use Rattle.std.specs.Float.Ieee.Scale.{finite}
 use Rattle.doubles.specs.Doubles.{nought}
 use Rattle.numerical.specs.declared.Sample.{Sample}
@@ -64,6 +64,10 @@ whole_both x s = record { value = record { x = x; y = whole s.sum }; derivative 
 
 unfoldable pub value_and_derivative : List Float → Float → ValueAndDerivative
 value_and_derivative a x = whole_both x (sums_both a x)
+
+-- x - f / d: where the tangent crosses zero
+unfoldable pub newton_point : ValueAndDerivative → Float
+newton_point v = sub binary64 v.value.x (div binary64 v.value.y v.derivative)
 
 -- ---- "when an evaluation answers refusal 9 in place of a sample"
 

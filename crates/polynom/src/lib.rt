@@ -3,7 +3,7 @@
 #![tactic(auto)]
 
 ghost use Rattle.std.specs.Prelude.{◌≡◌, ◌<◌, ◌+◌, length, drop};
-ghost use Rattle.polynom.specs.Polynom.{sums, value, value_and_derivative, sample_if_finite, evaluated, both_if_finite, evaluated_both};
+ghost use Rattle.polynom.specs.Polynom.{sums, value, value_and_derivative, sample_if_finite, evaluated, both_if_finite, evaluated_both, newton_point};
 ghost use Rattle.polynom.specs.Terms.{Passed};
 
 use numerical::Sample;
@@ -26,6 +26,15 @@ pub struct Summed {
 pub struct ValueAndDerivative {
     pub value: Sample,
     pub derivative: f64,
+}
+
+impl ValueAndDerivative {
+    // Where the tangent crosses zero.
+    pub fn newton_point(self) -> f64
+        ensures { result ≡ newton_point self }
+    {
+        self.value.x - self.value.y / self.derivative
+    }
 }
 
 // The sum of the coefficients from i on, with that of those after i at hand.
@@ -78,10 +87,8 @@ pub fn value(a: &[f64], x: f64) -> f64
 {
     let first = begun(a, x);
     let mut sum = first.sum;
-    let mut left = first.left;
-    while left > 1 {
-        left -= 2;
-        sum = two_more(a, x, left, sum);
+    for pair in (0..first.left / 2).rev() {
+        sum = two_more(a, x, 2 * pair, sum);
     }
     sum.result + sum.xn
 }
@@ -90,27 +97,21 @@ pub fn value(a: &[f64], x: f64) -> f64
 pub fn value_and_derivative(a: &[f64], x: f64) -> ValueAndDerivative
     ensures { result ≡ value_and_derivative a.now x }
 {
-    let mut xn = 1.0;
-    let mut value = 0.0;
-    let mut xn1 = 0.0;
-    let mut derivative = 0.0;
-    let mut n = 0.0;
-    let mut i = a.len();
-    if i > 0 {
-        i -= 1;
-        let c = a[i];
-        derivative = 0.0 + c * 0.0 * 0.0;
-        value = 0.0 + c * 1.0;
-        xn1 = 1.0;
-        xn = 1.0 * x;
-        n = 0.0 + 1.0;
-    }
-    while i > 0 {
-        i -= 1;
-        let c = a[i];
-        derivative = derivative + c * n * xn1;
+    let Some((last, front)) = a.split_last() else {
+        return ValueAndDerivative {
+            value: Sample { x, y: 0.0 + 1.0 },
+            derivative: 0.0 + 0.0 * 0.0,
+        };
+    };
+    let mut derivative = 0.0 + *last * 0.0 * 0.0;
+    let mut value = 0.0 + *last * 1.0;
+    let mut xn1 = 1.0;
+    let mut xn = 1.0 * x;
+    let mut n = 0.0 + 1.0;
+    for c in front.iter().rev() {
+        derivative = derivative + *c * n * xn1;
         let next = xn * x;
-        value = value + c * xn;
+        value = value + *c * xn;
         xn1 = xn;
         xn = next;
         n = n + 1.0;
@@ -143,12 +144,8 @@ pub fn evaluate(a: &[f64], x: f64) -> Option<Sample>
 fn both_if_finite(v: ValueAndDerivative) -> Option<ValueAndDerivative>
     ensures { result ≡ both_if_finite v }
 {
-    if doubles::is_finite(v.value.y) {
-        if doubles::is_finite(v.derivative) {
-            Some(v)
-        } else {
-            None
-        }
+    if doubles::is_finite(v.value.y) && doubles::is_finite(v.derivative) {
+        Some(v)
     } else {
         None
     }

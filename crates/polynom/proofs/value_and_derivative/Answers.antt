@@ -1,43 +1,28 @@
--- `polynom::value_and_derivative` meets its contract. The loop's invariant: the locals are the sums of the coefficients passed, from i on. Assumes nothing.
-use mathlib.Core.Path.{◌≡◌}
-use native.Mathlib.Omega.{arith}
-use lib.ListN.{length}
+-- `polynom::value_and_derivative` meets its contract. The loop's invariant: the locals are the sums of the coefficients passed, which stand behind those that are left. Assumes nothing.
+use Rattle.std.specs.Prelude.{[], ◌∷◌, ◌≡◌, refl}
+use Rattle.std.proofs.Common.{rules, ◌∙◌}
+use Rattle.std.proofs.lemmas.List.{nil_from_length}
 use Rattle.polynom.specs.Polynom.{sums_both, value_and_derivative}
-use Rattle.polynom.proofs.TermLaws.{sums_both_none, sums_both_more}
+use Rattle.polynom.proofs.TermLaws.{behind}
 use Rattle.polynom.proofs.value_and_derivative.Goals as goal
-use Rattle.polynom.proofs.value_and_derivative.Goals.{then-i-gt0, else-i-gt0}
 
-pub offset_bounds-a-i : goal.offset_bounds-a-i
-offset_bounds-a-i c = omega arith
+pub returns-in_default : goal.returns-in_default
+unfolding value_and_derivative sums_both
+returns-in_default c = rw (nil_from_length _ c.in_default.ensures.cases) refl
 
-pub bounds-a-i : goal.bounds-a-i
-bounds-a-i c = omega arith
+pub loop-c-init : goal.loop-c-init
+unfolding sums_both
+loop-c-init c = (c.in-Some.last.now ∷ [], search (rules, c.in-Some.ensures.cases.0), refl)
 
-pub loop-i-init : goal.loop-i-init
-loop-i-init c =
-    let a = c.args.a.now in
-    let x = c.args.x in
-    elim c.if-i-gt0.branch [
-      | then-i-gt0 w ↦ rw (w.xn-is, w.value-is, w.xn1-is, w.derivative-is, w.n-is, w.i-is) (omega arith, sums_both_more a x (length a) _ (omega arith) (omega arith) (sums_both_none a x))
-      | else-i-gt0 w ↦ rw (w.xn-is, w.value-is, w.xn1-is, w.derivative-is, w.n-is, w.i-is) (omega arith, sums_both_none a x)
-    ]
-
-pub offset_bounds-a-i-in-loop-i : goal.offset_bounds-a-i-in-loop-i
-offset_bounds-a-i-in-loop-i c = omega arith
-
-pub bounds-a-i-in-loop-i : goal.bounds-a-i-in-loop-i
-bounds-a-i-in-loop-i c = omega arith
-
-pub loop-i-smaller : goal.loop-i-smaller
-loop-i-smaller c = omega arith
-
-pub loop-i-preserved : goal.loop-i-preserved
-loop-i-preserved c =
-    (omega arith, sums_both_more c.args.a.now c.args.x c.loop-i.i _ (omega arith) (omega arith) c.loop-i.invariant.1)
+pub loop-c-preserved : goal.loop-c-preserved
+unfolding sums_both
+loop-c-preserved c =
+    let i = c.loop-c.invariant in
+    (c.in-Some-c.c.now ∷ i.0, behind _ _ _ _ _ i.1 c.in-Some-c.ensures.steps, rw i.2 refl)
 
 pub returns : goal.returns
 unfolding value_and_derivative
 returns c =
-    let z : c.loop-i.i ≡ 0 = omega arith in
-    let e : sums_both c.args.a.now c.args.x ≡ _ = rw z at c.loop-i.invariant.1 in
-    rw e
+    let i = c.loop-c.invariant in
+    let e : c.args.a.now ≡ i.0 = i.1 ∙ rw (nil_from_length _ c.in-None.ensures.steps.0) refl in
+    rw (e, i.2) refl
