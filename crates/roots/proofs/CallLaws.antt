@@ -1,9 +1,9 @@
 -- What the proofs of the calls cite.
-use Rattle.std.specs.Prelude.{ℕ, ◌+◌, ◌≤◌, ◌<◌, Bool, true, cond, List, [], ◌∷◌, ◌≡◌, refl, length, drop, get_or, Float}
-use Rattle.std.proofs.Common.{add-one, arith, true≢false, ap, sym, ◌∙◌, drop-cons}
+use Rattle.std.specs.Prelude.{ℕ, ◌≤◌, Bool, true, cond, ◌&&◌, List, [], ◌∷◌, ◌≡◌, refl, length, Float, Result, Ok, Err, IsErrAnd}
+use Rattle.std.specs.List.{list_all}
+use Rattle.std.specs.Float.Ieee.{of_bits}
+use Rattle.std.proofs.Common.{true≢false, ap, sym, ◌∙◌}
 use Rattle.std.proofs.Math.Bool.{false}
-use Rattle.std.proofs.Math.Seq.{drop-length}
-use Rattle.std.specs.Float.{nan}
 use Rattle.std.specs.Float.Ieee.Scale.{finite}
 use Rattle.numerical.specs.Answers.{refused_at_once}
 use Rattle.numerical.specs.declared.Outcome.{Outcome}
@@ -12,93 +12,70 @@ use Rattle.simple_convergency.specs.StopLaws.{Passed}
 use Rattle.simple_convergency.proofs.StopLaws.{passed}
 use Rattle.simple_convergency.specs.declared.StopRule.{StopRule}
 use Rattle.simple_convergency.specs.declared.Tolerances.{Tolerances}
-use Rattle.simple_convergency.specs.declared.Checked.{Checked}
-use Rattle.simple_convergency.specs.declared.Checked.TheVariants.{Rule, Refused}
-use Rattle.roots.specs.Calls.{bad_count, all_finite, starts_of, found_by, found_under, answer}
+use Rattle.simple_convergency.specs.declared.BadRule.{BadRule}
+use Rattle.roots.specs.Calls.{bad_count, all_finite, starts_of, two_starts, found_by, found_under, answered, answer}
+use Rattle.roots.specs.declared.BadCall.{BadCall}
+use Rattle.roots.specs.declared.BadCall.TheVariants.{Count, Coefficients, Starts, Rule}
 use Rattle.roots.specs.declared.Method.{Method}
+use Rattle.roots.specs.declared.Method.TheVariants.{Brent, RegulaFalsi, Secant, NewtonRaphson, Polynom}
 
--- ---- the coefficients from i on
+-- ---- whether all are finite
 
-module _ (a : List Float) (i : ℕ) (h : i < length a) where
-  one_off : drop i a ≡ get_or a i nan ∷ drop (i + 1) a
-  one_off = rw (add-one, drop-cons a i nan)
-
-  pub finite_on : {f : Bool} → f ≡ finite (get_or a i nan) → f ≡ true → all_finite (drop i a) ≡ all_finite a → all_finite (drop (i + 1) a) ≡ all_finite a
-  unfolding all_finite
-  finite_on e t k = go ∙ k
-    where
-      go : all_finite (drop (i + 1) a) ≡ all_finite (drop i a)
-      go = rw (one_off, ← e, t)
-
-  pub finite_off : {f : Bool} → f ≡ finite (get_or a i nan) → f ≡ false → all_finite (drop i a) ≡ all_finite a → false ≡ all_finite a
-  unfolding all_finite
-  finite_off e t k = go ∙ k
-    where
-      go : false ≡ all_finite (drop i a)
-      go = rw (one_off, ← e, t)
-
-pub finite_end : (a : List Float) (i : ℕ) → i ≤ length a → length a ≤ i → all_finite (drop i a) ≡ all_finite a → true ≡ all_finite a
+-- each is, one after the other
+pub each_finite : (a : List Float) → list_all finite a ≡ all_finite a
 unfolding all_finite
-finite_end a i h k e = go ∙ e
+each_finite [] = refl
+each_finite (x ∷ rest) = go (finite x) (each_finite rest)
   where
-    same : i ≡ length a
-    same = omega arith
+    go : (b : Bool) → list_all finite rest ≡ all_finite rest → (b && list_all finite rest) ≡ cond b (all_finite rest) false
+    go true e = e
+    go false e = refl
 
-    go : true ≡ all_finite (drop i a)
-    go = rw (same, drop-length)
+-- plus zero is finite, so what stands behind the starts changes nothing
+pub two_finite : (m : Method) → all_finite (two_starts m) ≡ all_finite (starts_of m)
+unfolding all_finite of_bits
+two_finite (Brent from to) = refl
+two_finite (RegulaFalsi from to) = refl
+two_finite (Secant first second) = refl
+two_finite (NewtonRaphson start) = refl
+two_finite (Polynom from to) = refl
 
 -- ---- by the method's variant
-
-pub by_starts : {r : Bool} (m : Method) {n : Method} → m ≡ n → r ≡ all_finite (starts_of n) → r ≡ all_finite (starts_of m)
-by_starts m e k = rw e k
-
-pub one_finite : {r : Bool} (x : Float) → r ≡ finite x → r ≡ all_finite (x ∷ [])
-unfolding all_finite
-one_finite x e = e ∙ go (finite x)
-  where
-    go : (b : Bool) → b ≡ cond b true false
-    go true = refl
-    go false = refl
 
 pub by_method : {r : Outcome} (a : List Float) (stop : StopRule) (m : Method) {n : Method} → m ≡ n → r ≡ found_by a stop n → r ≡ found_by a stop m
 by_method a stop m e k = rw e k
 
--- ---- 1 to 5 in their order: each answer with the tests that were made before it
+-- ---- 1 to 5 in their order: each refusal with the tests that were made before it
 
-module _ (a : List Float) (m : Method) (tolerances : Tolerances) (limit : ℕ) {r : Outcome} {bad : Bool} (e : bad ≡ bad_count (length a)) where
-  pub count_refused : bad ≡ true → r ≡ refused_at_once 1 → r ≡ answer a m tolerances limit
+module _ (a : List Float) (m : Method) (tolerances : Tolerances) (limit : ℕ) {bad : Bool} (e : bad ≡ bad_count (length a)) where
+  pub count_refused : bad ≡ true → answered a m (Err Count) ≡ answer a m tolerances limit
   unfolding answer
-  count_refused t k = rw (← e, t) k
+  count_refused t = rw (← e, t) refl
 
   module _ (t : bad ≡ false) {all : Bool} (f : all ≡ all_finite a) where
-    pub coefficient_refused : all ≡ false → r ≡ refused_at_once 2 → r ≡ answer a m tolerances limit
+    pub coefficient_refused : all ≡ false → answered a m (Err Coefficients) ≡ answer a m tolerances limit
     unfolding answer
-    coefficient_refused u k = rw (← e, t, ← f, u) k
+    coefficient_refused u = rw (← e, t, ← f, u) refl
 
     module _ (u : all ≡ true) {starts : Bool} (g : starts ≡ all_finite (starts_of m)) where
-      pub start_refused : starts ≡ false → r ≡ refused_at_once 3 → r ≡ answer a m tolerances limit
+      pub start_refused : starts ≡ false → answered a m (Err Starts) ≡ answer a m tolerances limit
       unfolding answer
-      start_refused v k = rw (← e, t, ← f, u, ← g, v) k
+      start_refused v = rw (← e, t, ← f, u, ← g, v) refl
 
-      module _ (v : starts ≡ true) {c : Checked} (h : c ≡ checked_of tolerances limit) where
-        under : r ≡ found_under a m c → r ≡ answer a m tolerances limit
-        unfolding answer
-        under k = rw (← e, t, ← f, u, ← g, v, ← h) k
+      -- what the stop rule's check says is left
+      pub by_rule : starts ≡ true → {c : Result StopRule BadRule} → c ≡ checked_of tolerances limit → found_under a m c ≡ answer a m tolerances limit
+      unfolding answer
+      by_rule v h = rw (← e, t, ← f, u, ← g, v, ← h) refl
 
-        pub by_rule : {stop : StopRule} → c ≡ Rule stop → r ≡ found_by a stop m → r ≡ answer a m tolerances limit
-        by_rule q k = under (k ∙ ap (found_under a m) (sym q))
-
-        pub by_refusal : {n : ℕ} → c ≡ Refused n → r ≡ refused_at_once n → r ≡ answer a m tolerances limit
-        by_refusal q k = under (k ∙ ap (found_under a m) (sym q))
+-- what a refused rule is refused with, as a call
+pub rule_refused : (a : List Float) (m : Method) (why : BadRule) (r : Result StopRule BadCall) → IsErrAnd r (λ w. w ≡ Rule why) → answered a m r ≡ found_under a m (Err why)
+rule_refused a m why (Err w) e = ap (λ (w : BadCall). answered a m (Err w)) e
+rule_refused a m why (Ok stop) e = absurd e
 
 -- ---- what a rule that was checked keeps to
 
-module _ (tolerances : Tolerances) (limit : ℕ) {c : Checked} {stop : StopRule} (e : c ≡ checked_of tolerances limit) (k : c ≡ Rule stop) where
-  rule : Passed tolerances limit stop
-  rule = passed tolerances limit stop (sym e ∙ k)
-
-  pub limit_kept : stop.limit ≤ greatest_limit
-  limit_kept = rw rule.same_limit rule.in_range
+pub limit_kept : (tolerances : Tolerances) (limit : ℕ) {stop : StopRule} → checked_of tolerances limit ≡ Ok stop → stop.limit ≤ greatest_limit
+limit_kept tolerances limit {stop} e = let rule : Passed tolerances limit stop = passed tolerances limit stop e in rw rule.same_limit rule.in_range
 
 -- ---- where all are finite, each is
 

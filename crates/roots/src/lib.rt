@@ -2,13 +2,14 @@
 
 #![tactic(auto)]
 
-ghost use Rattle.std.specs.Prelude.{◌≡◌, [], ◌∷◌, ◌≤◌};
+ghost use Rattle.std.specs.Prelude.{◌≡◌, ◌≤◌, IfOk};
 ghost use Rattle.simple_convergency.specs.Stop.{greatest_limit, one_eps, plain_limit};
-ghost use Rattle.roots.specs.Calls.{bad_count, all_finite, starts_of, found_by, answer};
+ghost use Rattle.roots.specs.Calls.{bad_count, all_finite, two_starts, found_by, bad_call_number, answered, answer};
 ghost use Rattle.roots.specs.Methods.{method_number, start_count, method_of};
+ghost use Rattle.roots.specs.declared.BadCall.TheVariants.{Rule};
 
 use numerical::Outcome;
-use simple_convergency::{Checked, StopRule, Tolerances};
+use simple_convergency::{BadRule, StopRule, Tolerances};
 
 // A method with its starts.
 #[derive(Clone, Copy)]
@@ -54,15 +55,56 @@ impl Method {
         ensures { result ≡ method_number self }
     {
         match self {
-            Method::Brent { from: _, to: _ } => 1,
-            Method::RegulaFalsi { from: _, to: _ } => 2,
-            Method::Secant {
-                first: _,
-                second: _,
-            } => 3,
-            Method::NewtonRaphson { start: _ } => 4,
-            Method::Polynom { from: _, to: _ } => 5,
+            Method::Brent { .. } => 1,
+            Method::RegulaFalsi { .. } => 2,
+            Method::Secant { .. } => 3,
+            Method::NewtonRaphson { .. } => 4,
+            Method::Polynom { .. } => 5,
         }
+    }
+
+    // Its starts, and +0.0 where there is no second.
+    pub fn starts(self) -> [f64; 2]
+        ensures { result ≡ two_starts self }
+    {
+        match self {
+            Method::Brent { from, to } => [from, to],
+            Method::RegulaFalsi { from, to } => [from, to],
+            Method::Secant { first, second } => [first, second],
+            Method::NewtonRaphson { start } => [start, 0.0],
+            Method::Polynom { from, to } => [from, to],
+        }
+    }
+}
+
+// Why a call is refused before any evaluation.
+#[derive(Clone, Copy, Debug, PartialEq, Eq)]
+pub enum BadCall {
+    Count,
+    Coefficients,
+    Starts,
+    Rule(BadRule),
+}
+
+impl BadCall {
+    // Its number among the refusals.
+    pub fn number(self) -> u8
+        ensures { result ≡ bad_call_number self }
+    {
+        match self {
+            BadCall::Count => 1,
+            BadCall::Coefficients => 2,
+            BadCall::Starts => 3,
+            BadCall::Rule(why) => why.number(),
+        }
+    }
+}
+
+impl From<BadRule> for BadCall {
+    ghost from_gives = { λ why r. r ≡ Rule why };
+
+    fn from(why: BadRule) -> BadCall {
+        BadCall::Rule(why)
     }
 }
 
@@ -77,42 +119,11 @@ fn is_bad_count(count: usize) -> bool
     }
 }
 
-// Whether each coefficient is finite.
+// Whether each of the doubles is finite.
 fn all_finite(a: &[f64]) -> bool
     ensures { result ≡ all_finite a.now }
 {
-    let mut i = 0;
-    while i < a.len() {
-        if doubles::is_finite(a[i]) {
-            i += 1;
-        } else {
-            return false;
-        }
-    }
-    true
-}
-
-fn both_finite(p: f64, q: f64) -> bool
-    ensures { result ≡ all_finite (p ∷ q ∷ []) }
-{
-    if doubles::is_finite(p) {
-        doubles::is_finite(q)
-    } else {
-        false
-    }
-}
-
-// Whether each start of the method is finite.
-fn starts_finite(method: Method) -> bool
-    ensures { result ≡ all_finite (starts_of method) }
-{
-    match method {
-        Method::Brent { from, to } => both_finite(from, to),
-        Method::RegulaFalsi { from, to } => both_finite(from, to),
-        Method::Secant { first, second } => both_finite(first, second),
-        Method::NewtonRaphson { start } => doubles::is_finite(start),
-        Method::Polynom { from, to } => both_finite(from, to),
-    }
+    a.iter().all(|x| doubles::is_finite(*x))
 }
 
 // The method's own search, for a call that was checked.
@@ -129,23 +140,35 @@ fn found_by(a: &[f64], stop: StopRule, method: Method) -> Outcome
     }
 }
 
-// A search: refusals 1 to 5 in that order, before any evaluation, and then the method.
+// The stop rule of a call that may be searched, or the first of what is wrong with it: 1 to 5 in that order.
+fn checked_call(
+    a: &[f64],
+    method: Method,
+    tolerances: Tolerances,
+    limit: u64,
+) -> Result<StopRule, BadCall>
+    ensures in_order { answered a.now method result ≡ answer a.now method tolerances limit }
+    ensures in_range { IfOk result (λ stop. stop.limit ≤ greatest_limit) }
+{
+    if is_bad_count(a.len()) {
+        return Err(BadCall::Count);
+    }
+    if !all_finite(a) {
+        return Err(BadCall::Coefficients);
+    }
+    if !all_finite(&method.starts()) {
+        return Err(BadCall::Starts);
+    }
+    Ok(StopRule::checked(tolerances, limit)?)
+}
+
+// A search: the refusals before any evaluation, and then the method.
 pub fn search(a: &[f64], method: Method, tolerances: Tolerances, limit: u64) -> Outcome
     ensures { result ≡ answer a.now method tolerances limit }
 {
-    if is_bad_count(a.len()) {
-        return Outcome::refused_at_once(1);
-    }
-    if !all_finite(a) {
-        return Outcome::refused_at_once(2);
-    }
-    if !starts_finite(method) {
-        return Outcome::refused_at_once(3);
-    }
-    let checked = StopRule::checked(tolerances, limit);
-    match checked {
-        Checked::Rule(stop) => found_by(a, stop, method),
-        Checked::Refused(number) => Outcome::refused_at_once(number),
+    match checked_call(a, method, tolerances, limit) {
+        Ok(stop) => found_by(a, stop, method),
+        Err(why) => Outcome::refused_at_once(why.number()),
     }
 }
 
