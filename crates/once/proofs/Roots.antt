@@ -10,6 +10,8 @@ use Rattle.roots.proofs.find_root_polynom.Reads as find-root-polynom-reads
 use Rattle.roots.proofs.Method.numbered.Reads as numbered-reads
 use Rattle.roots.proofs.Method.start_count.Reads as start-count-reads
 use Rattle.roots.proofs.Method.number.Reads as number-reads
+use Rattle.roots.proofs.Method.starts.Reads as starts-reads
+use Rattle.roots.proofs.BadCall.number.Reads as bad-number-reads
 use Rattle.once.specs.One.{One}
 use Rattle.once.proofs.Fixed.{fixed}
 
@@ -45,3 +47,9 @@ start_count_once = fixed _ _
 
 pub number_once : One number-reads.Learnt
 number_once = fixed _ _
+
+pub starts_once : One starts-reads.Learnt
+starts_once = fixed _ _
+
+pub bad_number_once : One bad-number-reads.Learnt
+bad_number_once = fixed _ _
