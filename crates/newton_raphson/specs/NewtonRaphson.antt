@@ -5,16 +5,12 @@ use Rattle.std.specs.Float.Ieee.{add, sub, div}
 use Rattle.numerical.specs.declared.Answer.{Answer}
 use Rattle.numerical.specs.declared.Answer.TheVariants.{ByWidth}
 use Rattle.numerical.specs.declared.Outcome.{Outcome}
-use Rattle.numerical.specs.declared.Progress.{Progress}
 use Rattle.simple_convergency.specs.declared.StopRule.{StopRule}
 use Rattle.simple_convergency.specs.Stop.{flat_at}
 use Rattle.polynom.specs.Polynom.{one}
 use Rattle.polynom.specs.declared.ValueAndDerivative.{ValueAndDerivative}
 use Rattle.searching.specs.Programs.{found, converged, flat, Prog, Turned, ended, next, test, stops, answers, refuses, by_value, both_at, offered, steps_to, searches, answer_of}
 use Rattle.newton_raphson.specs.declared.Spot.{Spot}
-use Rattle.newton_raphson.specs.declared.To.{To}
-use Rattle.newton_raphson.specs.declared.To.TheVariants.{Ended, Next}
-use Rattle.newton_raphson.specs.declared.Turn.{Turn}
 
 -- ---- a step
 
@@ -77,12 +73,3 @@ newton_program stop start = searches (opening stop start) (turns_left stop) (tur
 
 unfoldable pub newton_raphson : List Float → StopRule → Float → Outcome
 newton_raphson a stop start = answer_of a (newton_program stop start)
-
--- ---- what a turn of the code stands for
-
-abbrev pub seen : To → Turned Spot
-seen (Ended a) = ended a
-seen (Next s) = next s
-
-abbrev pub viewed : Turn → Turned Spot × Progress
-viewed t = (seen t.to, t.progress)

@@ -1,25 +1,16 @@
--- What the laws of searches give for regula falsi: the loop's shape, the bounds, the counts, and that views determine turns.
-use Rattle.std.specs.Prelude.{ℕ, ◌+◌, ◌*◌, ◌≤◌, List, Bool, true, false, not, ◌&&◌, ◌||◌, ◌≡◌, refl, Float}
+-- What the laws of searches give for regula falsi: the loop's shape, the bounds and the counts.
+use Rattle.std.specs.Prelude.{◌+◌, ◌*◌, ◌≤◌, List, Bool, true, false, not, ◌&&◌, ◌||◌, ◌≡◌, refl, Float}
 use Rattle.std.proofs.Common.{arith, mul-one, mul-zero}
 use Rattle.std.proofs.Math.Nat.{le_refl}
 use Rattle.std.specs.Float.Ieee.{lt}
-use Rattle.numerical.specs.Answers.{outcome}
 use Rattle.numerical.specs.Tallies.{fresh}
-use Rattle.numerical.specs.declared.Answer.{Answer}
-use Rattle.numerical.specs.declared.Outcome.{Outcome}
-use Rattle.numerical.specs.declared.Progress.{Progress}
 use Rattle.simple_convergency.specs.Stop.{turns_of}
 use Rattle.simple_convergency.specs.declared.StopRule.{StopRule}
-use Rattle.searching.specs.Programs.{rising, oracle, play, tallied}
+use Rattle.searching.specs.Programs.{rising}
 use Rattle.searching.specs.Bounds.{Within, More}
 use Rattle.searching.proofs.BoundLaws.{within_done, within_test, within_stops, within_ruled, within_pulled, within_value, within_offered, within_bracketed, within_narrows, within_less, within_searches, answer_within}
-use Rattle.searching.specs.Loops.{Turns, run_of}
-use Rattle.searching.specs.Loops.{Shown, shown_end, shown_go}
-use Rattle.searching.proofs.LoopLaws.{opened_ended, opened_next, seen_once}
-use Rattle.regula_falsi.specs.RegulaFalsi.{second_at, first_at, ordered, opening, pair_of, arrived, landed, pulled_in, turn_from, illinois_program, regula_falsi, seen, elsewhere}
+use Rattle.regula_falsi.specs.RegulaFalsi.{second_at, first_at, ordered, opening, pair_of, arrived, landed, pulled_in, turn_from, illinois_program, regula_falsi, elsewhere}
 use Rattle.regula_falsi.specs.declared.Illinois.{Illinois}
-use Rattle.regula_falsi.specs.declared.To.{To}
-use Rattle.regula_falsi.specs.declared.To.TheVariants.{Ended, Next}
 
 within_ordered : (stop : StopRule) (x1 x2 : Float) → Within 2 0 0 (ordered stop x1 x2)
 unfolding ordered first_at second_at
@@ -38,31 +29,12 @@ within_turn stop s =
     (λ y. within_stops stop _ within_done
     (within_value y (λ p. within_stops stop _ within_done (within_ruled 1 _ (within_narrows pair_of _))))))
 
--- the turns, for the laws of loops
-abbrev pub turns : StopRule → Turns Illinois To
-turns stop =
-    record {
-      turn = turn_from stop;
-      seen = seen;
-      end = Ended;
-      go = Next;
-      seen_end = λ a. refl;
-      seen_go = λ s. refl;
-      small = λ s. within_less (within_turn stop s) (omega arith) (omega arith) (omega arith);
-    }
+-- at most three of each
+pub turn_small : (stop : StopRule) (s : Illinois) → Within 3 3 3 (turn_from stop s)
+turn_small stop s = within_less (within_turn stop s) (omega arith) (omega arith) (omega arith)
 
 pub small_opening : (stop : StopRule) (a b : Float) → Within 3 3 3 (opening stop a b)
 small_opening stop a b = within_less (within_opening stop a b) (omega arith) (omega arith) (omega arith)
-
--- from what the opening came to: the search has ended, or the turns are the rest
-module _ (cs : List Float) (stop : StopRule) (a b : Float) {t : To} {p q : Progress} (f : q ≡ fresh) (e : (seen t, p) ≡ play tallied (oracle cs) (opening stop a b) q) where
-  pub from_end : {w : Answer} → t ≡ Ended w → outcome (w, p) ≡ regula_falsi cs stop a b
-  unfolding regula_falsi illinois_program
-  from_end = opened_ended (turns stop) _ _ cs f e
-
-  pub from_state : {s : Illinois} {n : ℕ} {r : Outcome} → t ≡ Next s → n ≡ turns_of stop → r ≡ run_of cs (turn_from stop) n s p → r ≡ regula_falsi cs stop a b
-  unfolding regula_falsi illinois_program
-  from_state = opened_next (turns stop) _ _ cs f e
 
 module _ (cs : List Float) (stop : StopRule) (a b : Float) where
   within_search : More (2 + turns_of stop * 1) (0 + turns_of stop * 0) (0 + turns_of stop * 1) fresh (regula_falsi cs stop a b).progress
@@ -76,14 +48,6 @@ module _ (cs : List Float) (stop : StopRule) (a b : Float) where
   -- "Illinois, secant and Brent take no derivatives"
   pub regula_falsi_derivatives : (regula_falsi cs stop a b).progress.tally.derivatives.0 ≤ 0
   regula_falsi_derivatives = let h = within_search.derivatives in omega (arith, mul-zero (turns_of stop))
-
--- where a turn leads is what it stands for: the contracts by views determine their results
-shown : (stop : StopRule) (t : To) → Shown (turns stop) t
-shown stop (Ended a) = shown_end a refl
-shown stop (Next s) = shown_go s refl
-
-pub turn_once : (stop : StopRule) (x y : To) → seen x ≡ seen y → x ≡ y
-turn_once stop = seen_once (turns stop) (shown stop)
 
 -- the three tests together, as the code has them
 pub elsewhere_tests : (same first second : Bool) → ((same && not first) || (not same && (first || not second))) ≡ elsewhere same first second

@@ -6,20 +6,16 @@ use Rattle.numerical.specs.declared.Answer.{Answer}
 use Rattle.numerical.specs.declared.Answer.TheVariants.{ByWidth}
 use Rattle.numerical.specs.declared.Interval.{Interval}
 use Rattle.numerical.specs.declared.Outcome.{Outcome}
-use Rattle.numerical.specs.declared.Progress.{Progress}
 use Rattle.numerical.specs.declared.Sample.{Sample}
 use Rattle.simple_convergency.specs.Stop.{turns_of}
 use Rattle.simple_convergency.specs.declared.StopRule.{StopRule}
 use Rattle.doubles.specs.Doubles.{above, same_sign}
 use Rattle.numerical.specs.Middle.{two}
-use Rattle.searching.specs.Programs.{rising, found, converged, ruled, Prog, log, Turned, ended, next, stops, answers, by_value, value_at, offered, pulled_into, bracketed, narrows_to, searches, answer_of}
+use Rattle.searching.specs.Programs.{rising, found, converged, ruled, Prog, log, Turned, stops, answers, by_value, value_at, offered, pulled_into, bracketed, narrows_to, searches, answer_of}
 use Rattle.regula_falsi.specs.declared.End.{End}
 use Rattle.regula_falsi.specs.declared.Edge.{Edge}
 use Rattle.regula_falsi.specs.declared.Edge.TheVariants.{EdgeX1, NoEdge, EdgeX2}
 use Rattle.regula_falsi.specs.declared.Illinois.{Illinois}
-use Rattle.regula_falsi.specs.declared.To.{To}
-use Rattle.regula_falsi.specs.declared.To.TheVariants.{Ended, Next}
-use Rattle.regula_falsi.specs.declared.Turn.{Turn}
 
 -- an end with its full weight, and with half of it
 abbrev pub whole : Sample → End
@@ -125,12 +121,3 @@ illinois_program stop a b = searches (opening stop a b) (λ r. turns_of stop) (t
 
 unfoldable pub regula_falsi : List Float → StopRule → Float → Float → Outcome
 regula_falsi cs stop a b = answer_of cs (illinois_program stop a b)
-
--- ---- what a turn of the code stands for
-
-abbrev pub seen : To → Turned Illinois
-seen (Ended a) = ended a
-seen (Next s) = next s
-
-abbrev pub viewed : Turn → Turned Illinois × Progress
-viewed t = (seen t.to, t.progress)

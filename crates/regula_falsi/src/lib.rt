@@ -4,13 +4,13 @@
 
 ghost use Rattle.std.specs.Prelude.{◌≡◌, List, ◌≤◌, Float};
 ghost use Rattle.numerical.specs.Tallies.{Room};
-ghost use Rattle.numerical.specs.declared.Answer.TheVariants.{ByValue};
 ghost use Rattle.simple_convergency.specs.Stop.{greatest_limit};
-ghost use Rattle.searching.specs.Programs.{ended, next, oracle, play, tallied};
-ghost use Rattle.searching.specs.Loops.{Ample, run_of};
-ghost use Rattle.regula_falsi.specs.RegulaFalsi.{halved, second_at, first_at, ordered, opening, candidate_of, right_after, left_after, left_replaced, right_replaced, replaced_of, departs, arrived, landed, pulled_in, turn_from, regula_falsi, viewed};
+ghost use Rattle.searching.specs.Programs.{oracle, play, tallied};
+ghost use Rattle.searching.specs.Turns.{viewed};
+ghost use Rattle.regula_falsi.specs.RegulaFalsi.{halved, second_at, first_at, ordered, opening, candidate_of, right_after, left_after, left_replaced, right_replaced, replaced_of, departs, arrived, landed, pulled_in, turn_from, regula_falsi};
 
 use numerical::{Answer, Outcome, Progress, Sample};
+use searching::{Search, Turn};
 use simple_convergency::StopRule;
 
 // An end of the pair: its sample, and the value that the chord is drawn with.
@@ -35,104 +35,58 @@ pub struct Illinois {
     pub edge: Edge,
 }
 
-// Where a turn leads: to the search's end, or to the next state.
-#[derive(Clone, Copy)]
-pub enum To {
-    Ended(Answer),
-    Next(Illinois),
-}
-
-// A turn of the search, with what the run has done after it.
-#[derive(Clone, Copy)]
-pub struct Turn {
-    pub to: To,
-    pub progress: Progress,
-}
-
-// The search ends here.
-fn ended(answer: Answer, progress: Progress) -> Turn
-    ensures { viewed result ≡ (ended answer, progress) }
-{
-    let to = To::Ended(answer);
-    Turn { to, progress }
-}
-
-// The search goes on from this state.
-fn goes_on(state: Illinois, progress: Progress) -> Turn
-    ensures { viewed result ≡ (next state, progress) }
-{
-    let to = To::Next(state);
-    Turn { to, progress }
-}
-
-// The sample is a root by its value.
-fn by_value(s: Sample, progress: Progress) -> Turn
-    ensures { viewed result ≡ (ended (ByValue s.x s.y), progress) }
-{
-    ended(
-        Answer::ByValue {
-            root: s.x,
-            value: s.y,
-        },
-        progress,
-    )
-}
-
 // ---- the opening
 
 // Both values are there: the second is found, or the two have the same sign, or they are the first pair.
-fn second_at(stop: StopRule, p: Sample, q: Sample, progress: Progress) -> Turn
+fn second_at(stop: StopRule, p: Sample, q: Sample, progress: Progress) -> Turn<Illinois>
     ensures { (cs : List Float) → viewed result ≡ play tallied (oracle cs) (second_at stop p q) progress }
 {
     if stop.found(q.y) {
-        return by_value(q, progress);
+        return Turn::by_value(q, progress);
     }
     let decided = searching::alike(p, q, progress);
-    let marked = decided.progress;
     if decided.decision {
-        return ended(Answer::Refused(6), marked);
+        return Turn::refused(6, decided.progress);
     }
-    goes_on(
+    Turn::next(
         Illinois {
             left: End { at: p, weight: p.y },
             right: End { at: q, weight: q.y },
             edge: Edge::NoEdge,
         },
-        marked,
+        decided.progress,
     )
 }
 
 // The first value is there: it is found, or the second is worked out.
-fn first_at(a: &[f64], stop: StopRule, x2: f64, p: Sample, progress: Progress) -> Turn
+fn first_at(a: &[f64], stop: StopRule, x2: f64, p: Sample, progress: Progress) -> Turn<Illinois>
     requires { Room 1 progress }
     ensures { viewed result ≡ play tallied (oracle a.now) (first_at stop x2 p) progress }
 {
     if stop.found(p.y) {
-        return by_value(p, progress);
+        return Turn::by_value(p, progress);
     }
     let counted = progress.valued();
-    let e = polynom::evaluate(a, x2);
-    let Some(q) = e else {
-        return ended(Answer::Refused(9), counted);
+    let Some(q) = polynom::evaluate(a, x2) else {
+        return Turn::refused(9, counted);
     };
     second_at(stop, p, q, counted)
 }
 
 // The opening from starts that are in order: the first is evaluated.
-fn ordered(a: &[f64], stop: StopRule, x1: f64, x2: f64, progress: Progress) -> Turn
+fn ordered(a: &[f64], stop: StopRule, x1: f64, x2: f64, progress: Progress) -> Turn<Illinois>
     requires { Room 2 progress }
     ensures { viewed result ≡ play tallied (oracle a.now) (ordered stop x1 x2) progress }
 {
     let counted = progress.valued();
-    let e = polynom::evaluate(a, x1);
-    let Some(p) = e else {
-        return ended(Answer::Refused(9), counted);
+    let Some(p) = polynom::evaluate(a, x1) else {
+        return Turn::refused(9, counted);
     };
     first_at(a, stop, x2, p, counted)
 }
 
 // The opening from any two starts.
-fn opening(a: &[f64], stop: StopRule, from: f64, to: f64, progress: Progress) -> Turn
+fn opening(a: &[f64], stop: StopRule, from: f64, to: f64, progress: Progress) -> Turn<Illinois>
     requires { Room 2 progress }
     ensures { viewed result ≡ play tallied (oracle a.now) (opening stop from to) progress }
 {
@@ -152,9 +106,8 @@ fn candidate(s: Illinois) -> f64
 fn halve(e: End) -> End
     ensures { result ≡ halved e }
 {
-    let at = e.at;
     End {
-        at,
+        at: e.at,
         weight: e.weight / 2.0,
     }
 }
@@ -165,8 +118,7 @@ fn right_after(edge: Edge, e: End) -> End
 {
     match edge {
         Edge::EdgeX1 => halve(e),
-        Edge::NoEdge => e,
-        Edge::EdgeX2 => e,
+        Edge::NoEdge | Edge::EdgeX2 => e,
     }
 }
 
@@ -175,8 +127,7 @@ fn left_after(edge: Edge, e: End) -> End
     ensures { result ≡ left_after edge e }
 {
     match edge {
-        Edge::EdgeX1 => e,
-        Edge::NoEdge => e,
+        Edge::EdgeX1 | Edge::NoEdge => e,
         Edge::EdgeX2 => halve(e),
     }
 }
@@ -185,11 +136,9 @@ fn left_after(edge: Edge, e: End) -> End
 fn left_replaced(s: Illinois, p: Sample) -> Illinois
     ensures { result ≡ left_replaced s p }
 {
-    let edge = s.edge;
-    let right = s.right;
     Illinois {
         left: End { at: p, weight: p.y },
-        right: right_after(edge, right),
+        right: right_after(s.edge, s.right),
         edge: Edge::EdgeX1,
     }
 }
@@ -198,10 +147,8 @@ fn left_replaced(s: Illinois, p: Sample) -> Illinois
 fn right_replaced(s: Illinois, p: Sample) -> Illinois
     ensures { result ≡ right_replaced s p }
 {
-    let edge = s.edge;
-    let left = s.left;
     Illinois {
-        left: left_after(edge, left),
+        left: left_after(s.edge, s.left),
         right: End { at: p, weight: p.y },
         edge: Edge::EdgeX2,
     }
@@ -229,26 +176,26 @@ fn departs(s: Illinois, p: Sample) -> bool
 }
 
 // The sample at the candidate is found, or the signs of the samples pick the end that it replaces. The products with the weights decide the mark alone.
-fn arrived(stop: StopRule, s: Illinois, sample: Sample, p: Progress) -> Turn
+fn arrived(stop: StopRule, s: Illinois, sample: Sample, p: Progress) -> Turn<Illinois>
     requires { Room 1 p }
     ensures { (cs : List Float) → viewed result ≡ play tallied (oracle cs) (arrived stop s sample) p }
 {
     if stop.found(sample.y) {
-        return by_value(sample, p);
+        return Turn::by_value(sample, p);
     }
     let marked = p.ruled(1, departs(s, sample));
-    goes_on(replaced(s, sample), marked.stepped())
+    Turn::next(replaced(s, sample), marked.stepped())
 }
 
 // The pair is small enough and x is the answer, or x is evaluated.
-fn landed(a: &[f64], stop: StopRule, s: Illinois, x: f64, p: Progress) -> Turn
+fn landed(a: &[f64], stop: StopRule, s: Illinois, x: f64, p: Progress) -> Turn<Illinois>
     requires { Room 2 p }
     ensures { viewed result ≡ play tallied (oracle a.now) (landed stop s x) p }
 {
     let x1 = s.left.at.x;
     let x2 = s.right.at.x;
     if stop.converged(x1, x2) {
-        return ended(
+        return Turn::ended(
             Answer::ByWidth {
                 root: x,
                 p: x1,
@@ -258,15 +205,14 @@ fn landed(a: &[f64], stop: StopRule, s: Illinois, x: f64, p: Progress) -> Turn
         );
     }
     let counted = p.valued();
-    let e = polynom::evaluate(a, x);
-    let Some(q) = e else {
-        return ended(Answer::Refused(9), counted);
+    let Some(q) = polynom::evaluate(a, x) else {
+        return Turn::refused(9, counted);
     };
     arrived(stop, s, q, counted)
 }
 
 // A candidate outside the pair becomes the nearer end.
-fn pulled_in(a: &[f64], stop: StopRule, s: Illinois, x: f64, p: Progress) -> Turn
+fn pulled_in(a: &[f64], stop: StopRule, s: Illinois, x: f64, p: Progress) -> Turn<Illinois>
     requires { Room 2 p }
     ensures { viewed result ≡ play tallied (oracle a.now) (pulled_in stop s x) p }
 {
@@ -276,45 +222,24 @@ fn pulled_in(a: &[f64], stop: StopRule, s: Illinois, x: f64, p: Progress) -> Tur
     landed(a, stop, s, placed.x, placed.progress)
 }
 
-// One step: the candidate is refused if it isn't finite, and else pulled.
-fn take_turn(a: &[f64], stop: StopRule, s: Illinois, p: Progress) -> Turn
-    requires { Room 3 p }
-    ensures { viewed result ≡ play tallied (oracle a.now) (turn_from stop s) p }
-{
-    let x = candidate(s);
-    if doubles::is_finite(x) {
-        pulled_in(a, stop, s, x, p)
-    } else {
-        ended(Answer::Refused(9), p)
-    }
-}
-
 // ---- the search
 
-// From a state on: a step at a time, until an end or the limit.
-fn searched(a: &[f64], stop: StopRule, begun: Illinois, progress: Progress, most: u64) -> Outcome
-    requires { (most ≤ greatest_limit) × Ample progress }
-    ensures { result ≡ run_of a.now (turn_from stop) most begun progress }
-{
-    let mut s = begun;
-    let mut p = progress;
-    let mut n: u64 = 0;
-    while n < most {
-        let turn = take_turn(a, stop, s, p);
-        let to = turn.to;
-        p = turn.progress;
-        match to {
-            To::Ended(answer) => return Outcome {
-                answer,
-                progress: p,
-            },
-            To::Next(next) => s = next,
+// The method's steps, as the loop of searches takes them.
+struct Steps;
+
+impl Search for Steps {
+    type State = Illinois;
+
+    ghost turn = { turn_from };
+
+    // One step: the candidate is refused if it isn't finite, and else pulled.
+    fn take_turn(a: &[f64], stop: StopRule, s: Illinois, p: Progress) -> Turn<Illinois> {
+        let x = candidate(s);
+        if doubles::is_finite(x) {
+            pulled_in(a, stop, s, x, p)
+        } else {
+            Turn::refused(9, p)
         }
-        n += 1;
-    }
-    Outcome {
-        answer: Answer::Refused(8),
-        progress: p,
     }
 }
 
@@ -323,11 +248,6 @@ pub fn find_root(a: &[f64], stop: StopRule, from: f64, to: f64) -> Outcome
     requires { stop.limit ≤ greatest_limit }
     ensures { result ≡ regula_falsi a.now stop from to }
 {
-    let turn = opening(a, stop, from, to, Progress::fresh());
-    let leads = turn.to;
-    let progress = turn.progress;
-    match leads {
-        To::Ended(answer) => Outcome { answer, progress },
-        To::Next(begun) => searched(a, stop, begun, progress, stop.turns()),
-    }
+    let opened = opening(a, stop, from, to, Progress::fresh());
+    searching::finished::<Steps>(a, stop, opened, stop.turns())
 }

@@ -1,14 +1,11 @@
 -- The laws of searches at work: the loop's shape, the bound, the count, and a walk that computes.
-use Rattle.std.specs.Prelude.{ℕ, ◌≤◌, List, [], ◌∷◌, ◌≡◌, refl, Float}
+use Rattle.std.specs.Prelude.{◌≤◌, List, [], ◌∷◌, ◌≡◌, refl, Float}
 use Rattle.std.proofs.Common.{arith}
 use Rattle.std.proofs.Math.Nat.{mul-one, le_refl}
 use Rattle.std.specs.Float.{binary64}
 use Rattle.std.specs.Float.Ieee.{of_bits, add, mul, lt, neg}
 use Rattle.doubles.specs.Doubles.{absolute}
-use Rattle.numerical.specs.Tallies.{fresh}
 use Rattle.numerical.specs.declared.Answer.TheVariants.{ByValue}
-use Rattle.numerical.specs.declared.Outcome.{Outcome}
-use Rattle.numerical.specs.declared.Progress.{Progress}
 use Rattle.simple_convergency.specs.Stop.{turns_of, found_at, one_eps}
 use Rattle.simple_convergency.specs.declared.StopRule.{StopRule}
 use Rattle.polynom.specs.Polynom.{value, sums, evaluated}
@@ -18,33 +15,15 @@ use Rattle.searching.proofs.ProgramLaws.{tallies_are_counts}
 use Rattle.searching.specs.Histories.{counted}
 use Rattle.searching.specs.Bounds.{Within}
 use Rattle.searching.proofs.BoundLaws.{within_done, within_stops, within_value, within_offered, within_steps, within_less, within_searches, answer_within}
-use Rattle.searching.specs.Loops.{Turns, run_of}
-use Rattle.searching.proofs.LoopLaws.{opened_next}
-use Rattle.walking.specs.Walking.{seen_at, turn_from, opening, walking, seen}
-use Rattle.walking.specs.declared.To.{To}
-use Rattle.walking.specs.declared.To.TheVariants.{Ended, Next}
+use Rattle.walking.specs.Walking.{seen_at, turn_from, opening, walking}
 
 pub within_turn : (stop : StopRule) (x : Float) → Within 1 0 1 (turn_from stop x)
 unfolding turn_from seen_at
 within_turn stop x = within_value x (λ p. within_stops stop _ within_done (within_offered _ (λ y. within_steps y)))
 
--- the turns, for the laws of loops
-abbrev pub turns : StopRule → Turns Float To
-turns stop =
-    record {
-      turn = turn_from stop;
-      seen = seen;
-      end = Ended;
-      go = Next;
-      seen_end = λ a. refl;
-      seen_go = λ x. refl;
-      small = λ x. within_less (within_turn stop x) (omega arith) (omega arith) (omega arith);
-    }
-
--- the opening asks for nothing, so the turns from the start are the walk
-pub from_start : (cs : List Float) (stop : StopRule) (x : Float) {n : ℕ} {p : Progress} {r : Outcome} → p ≡ fresh → n ≡ turns_of stop → r ≡ run_of cs (turn_from stop) n x p → r ≡ walking cs stop x
-unfolding walking play
-from_start cs stop x f = opened_next (turns stop) (opening x) _ cs f refl refl
+-- at most three of each
+pub turn_small : (stop : StopRule) (x : Float) → Within 3 3 3 (turn_from stop x)
+turn_small stop x = within_less (within_turn stop x) (omega arith) (omega arith) (omega arith)
 
 module _ (a : List Float) (stop : StopRule) (x : Float) where
   -- the values reported are those of the history

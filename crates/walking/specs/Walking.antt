@@ -3,15 +3,11 @@ use Rattle.std.specs.Prelude.{List, Float}
 use Rattle.std.specs.Float.{binary64}
 use Rattle.std.specs.Float.Ieee.{add}
 use Rattle.numerical.specs.declared.Outcome.{Outcome}
-use Rattle.numerical.specs.declared.Progress.{Progress}
 use Rattle.numerical.specs.declared.Sample.{Sample}
 use Rattle.simple_convergency.specs.Stop.{turns_of}
 use Rattle.simple_convergency.specs.declared.StopRule.{StopRule}
 use Rattle.polynom.specs.Polynom.{one}
-use Rattle.searching.specs.Programs.{found, Prog, done, Turned, ended, next, stops, by_value, value_at, offered, steps_to, searches, answer_of}
-use Rattle.walking.specs.declared.To.{To}
-use Rattle.walking.specs.declared.To.TheVariants.{Ended, Next}
-use Rattle.walking.specs.declared.Turn.{Turn}
+use Rattle.searching.specs.Programs.{found, Prog, done, Turned, next, stops, by_value, value_at, offered, steps_to, searches, answer_of}
 
 -- the sample at hand is found, or the walk goes one further
 unfoldable pub seen_at : StopRule → Sample → Prog (Turned Float)
@@ -28,11 +24,3 @@ opening x = done (next x)
 
 unfoldable pub walking : List Float → StopRule → Float → Outcome
 walking a stop x = answer_of a (searches (opening x) (λ r. turns_of stop) (turn_from stop))
-
--- what a turn of the code stands for
-abbrev pub seen : To → Turned Float
-seen (Ended a) = ended a
-seen (Next x) = next x
-
-abbrev pub viewed : Turn → Turned Float × Progress
-viewed t = (seen t.to, t.progress)

@@ -1,17 +1,14 @@
-use Rattle.numerical.proofs.TallyLaws.{room}
-use Rattle.searching.proofs.LoopLaws.{opened_room}
-use Rattle.newton_raphson.proofs.NewtonRaphsonLaws.{from_end, from_state, left_few, small_opening}
-use borrow.Author.Rules.{rules}
+use Rattle.searching.proofs.LoopLaws.{opened_room, opened_search}
+use Rattle.newton_raphson.specs.NewtonRaphson.{turns_left, newton_program, newton_raphson}
+use Rattle.newton_raphson.proofs.NewtonRaphsonLaws.{left_few, small_opening, turn_small}
 use Rattle.newton_raphson.proofs.find_root.Goals as goal
 
-pub opening-turn-requires : goal.opening-turn-requires
-opening-turn-requires c = search (rules, room)
+pub finished-requires-clause-in_range : goal.finished-requires-clause-in_range
+finished-requires-clause-in_range c = (left_few c.args.stop _ c.requires c.passes_left-most.ensures, opened_room _ _ c.fresh.ensures c.opening-opened.ensures (small_opening _ _))
 
-pub searched-requires : goal.searched-requires
-searched-requires c = (search left_few, search (opened_room, small_opening))
+pub finished-requires-clause-small : goal.finished-requires-clause-small
+finished-requires-clause-small c = turn_small _
 
-pub returns-in-Ended : goal.returns-in-Ended
-returns-in-Ended c = search from_end
-
-pub returns-in-Next : goal.returns-in-Next
-returns-in-Next c = search from_state
+pub returns : goal.returns
+unfolding newton_program newton_raphson
+returns c = opened_search _ _ c.fresh.ensures c.opening-opened.ensures (turns_left c.args.stop) _ c.passes_left-most.ensures c.finished.ensures

@@ -1,15 +1,10 @@
-use Rattle.numerical.proofs.TallyLaws.{room}
 use Rattle.searching.proofs.StepLaws.{steps}
 use Rattle.regula_falsi.specs.RegulaFalsi.{arrived}
-use borrow.Author.Rules.{rules}
 use Rattle.regula_falsi.proofs.arrived.Goals as goal
 
 pub returns-then-found : goal.returns-then-found
 unfolding arrived
 returns-then-found c = λ cs. search steps
-
-pub stepped-requires : goal.stepped-requires
-stepped-requires c = search (rules, room)
 
 pub returns : goal.returns
 unfolding arrived

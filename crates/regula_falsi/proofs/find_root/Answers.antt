@@ -1,18 +1,15 @@
-use Rattle.numerical.proofs.TallyLaws.{room}
-use Rattle.searching.proofs.LoopLaws.{opened_room}
-use Rattle.regula_falsi.proofs.RegulaFalsiLaws.{from_end, from_state, small_opening}
-use native.Mathlib.Omega.{arith}
-use borrow.Author.Rules.{rules}
+use Rattle.std.proofs.Common.{arith}
+use Rattle.searching.proofs.LoopLaws.{opened_room, opened_search}
+use Rattle.regula_falsi.specs.RegulaFalsi.{regula_falsi, illinois_program}
+use Rattle.regula_falsi.proofs.RegulaFalsiLaws.{small_opening, turn_small}
 use Rattle.regula_falsi.proofs.find_root.Goals as goal
 
-pub opening-turn-requires : goal.opening-turn-requires
-opening-turn-requires c = search (rules, room)
+pub finished-requires-clause-in_range : goal.finished-requires-clause-in_range
+finished-requires-clause-in_range c = (omega (arith, c.turns.ensures), opened_room _ _ c.fresh.ensures c.opening-opened.ensures (small_opening _ _ _))
 
-pub searched-requires : goal.searched-requires
-searched-requires c = (omega (arith, c.turns.ensures), search (opened_room, small_opening))
+pub finished-requires-clause-small : goal.finished-requires-clause-small
+finished-requires-clause-small c = turn_small _
 
-pub returns-in-Ended : goal.returns-in-Ended
-returns-in-Ended c = search from_end
-
-pub returns-in-Next : goal.returns-in-Next
-returns-in-Next c = search from_state
+pub returns : goal.returns
+unfolding regula_falsi illinois_program
+returns c = opened_search _ _ c.fresh.ensures c.opening-opened.ensures _ _ c.turns.ensures c.finished.ensures

@@ -1,7 +1,5 @@
 use Rattle.regula_falsi.specs.RegulaFalsi.{landed}
 use Rattle.searching.proofs.StepLaws.{steps}
-use Rattle.numerical.proofs.TallyLaws.{room}
-use borrow.Author.Rules.{rules}
 use Rattle.regula_falsi.proofs.landed.Goals as goal
 
 pub returns-then-converged : goal.returns-then-converged
@@ -11,9 +9,6 @@ returns-then-converged c = search steps
 pub returns-in_default : goal.returns-in_default
 unfolding landed
 returns-in_default c = search steps
-
-pub arrived-requires : goal.arrived-requires
-arrived-requires c = search (rules, room)
 
 pub returns : goal.returns
 unfolding landed

@@ -1,6 +1,6 @@
 use Rattle.searching.proofs.StepLaws.{steps}
 use Rattle.regula_falsi.specs.RegulaFalsi.{turn_from}
-use Rattle.regula_falsi.proofs.take_turn.Goals as goal
+use Rattle.regula_falsi.proofs.StepsSearch.take_turn.Goals as goal
 
 pub returns-then-is_finite : goal.returns-then-is_finite
 unfolding turn_from
