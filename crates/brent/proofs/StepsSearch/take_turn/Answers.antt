@@ -1,9 +1,7 @@
-use Rattle.numerical.proofs.TallyLaws.{room}
 use Rattle.searching.proofs.StepLaws.{by_held, by_missed, by_done}
 use Rattle.searching.specs.Programs.{ended}
 use Rattle.brent.specs.Brent.{by_width, turn_from}
-use borrow.Author.Rules.{rules}
-use Rattle.brent.proofs.take_turn.Goals as goal
+use Rattle.brent.proofs.StepsSearch.take_turn.Goals as goal
 
 pub returns-then-found : goal.returns-then-found
 unfolding turn_from
@@ -20,10 +18,7 @@ returns-then-converged c =
     by_missed _ _ _ _ _ _ c.found.ensures c.if-found.false
     (by_missed _ _ _ _ _ _ c.found-2.ensures c.if-found-2.false
     (by_held _ _ _ _ _ _ c.converged.ensures c.if-converged.true
-    (by_done _ _ (ended (by_width s)) c.ended-then-converged.ensures)))
-
-pub step_from-requires : goal.step_from-requires
-step_from-requires c = search (rules, room)
+    (by_done _ _ (ended (by_width s)) c.ended.ensures)))
 
 pub returns : goal.returns
 unfolding turn_from
