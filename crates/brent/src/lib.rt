@@ -32,6 +32,7 @@ pub struct Brent {
 }
 
 // The larger in size comes first, and on a tie the second.
+#[tactic(auto, unfolding(crate::specs::Brent::arrange))]
 fn arrange(p: Sample, q: Sample) -> Arranged
     ensures { result ≡ arrange p q }
 {
@@ -45,6 +46,7 @@ fn arrange(p: Sample, q: Sample) -> Arranged
 // ---- the opening
 
 // Refusal 6, or the first state: c and d are a before any step.
+#[tactic(auto, using(searching::proofs::StepLaws::steps), unfolding(crate::specs::Brent::opened, crate::specs::Brent::start_of))]
 fn opened(pair: Arranged, progress: Progress) -> Turn<Brent>
     ensures { (stop : StopRule) (cs : List Float) → viewed result ≡ play tallied (oracle cs) (opened stop pair) progress }
 {
@@ -66,6 +68,7 @@ fn opened(pair: Arranged, progress: Progress) -> Turn<Brent>
 }
 
 // Both values are there: they are arranged, then tested.
+#[tactic(auto, unfolding(crate::specs::Brent::second_at))]
 fn second_at(p: Sample, q: Sample, progress: Progress) -> Turn<Brent>
     ensures { (stop : StopRule) (cs : List Float) → viewed result ≡ play tallied (oracle cs) (second_at stop p q) progress }
 {
@@ -73,6 +76,7 @@ fn second_at(p: Sample, q: Sample, progress: Progress) -> Turn<Brent>
 }
 
 // The first value is there: the second is worked out, and nothing is tested yet.
+#[tactic(auto, using(searching::proofs::StepLaws::steps), unfolding(crate::specs::Brent::first_at))]
 fn first_at(a: &[f64], to: f64, p: Sample, progress: Progress) -> Turn<Brent>
     requires { Room 1 progress }
     ensures { (stop : StopRule) → viewed result ≡ play tallied (oracle a.now) (first_at stop to p) progress }
@@ -85,6 +89,7 @@ fn first_at(a: &[f64], to: f64, p: Sample, progress: Progress) -> Turn<Brent>
 }
 
 // The starts are evaluated in the order given.
+#[tactic(auto, using(searching::proofs::StepLaws::steps), unfolding(crate::specs::Brent::opening))]
 fn opening(a: &[f64], from: f64, to: f64, progress: Progress) -> Turn<Brent>
     requires { Room 2 progress }
     ensures { (stop : StopRule) → viewed result ≡ play tallied (oracle a.now) (opening stop from to) progress }
@@ -99,6 +104,7 @@ fn opening(a: &[f64], from: f64, to: f64, progress: Progress) -> Turn<Brent>
 // ---- the candidate
 
 // Where the inverse quadratic through the three samples crosses zero.
+#[tactic(auto, unfolding(crate::specs::Brent::inverse_quadratic))]
 fn inverse_quadratic(s: Brent) -> f64
     ensures { result ≡ inverse_quadratic s }
 {
@@ -114,6 +120,7 @@ fn inverse_quadratic(s: Brent) -> f64
 }
 
 // Where the chord from a to b crosses zero.
+#[tactic(auto, unfolding(crate::specs::Brent::chord))]
 fn chord(s: Brent) -> f64
     ensures { result ≡ chord s }
 {
@@ -121,6 +128,7 @@ fn chord(s: Brent) -> f64
 }
 
 // Whether c has another value than a and than b.
+#[tactic(auto, unfolding(crate::specs::Brent::three_values))]
 fn three_values(s: Brent) -> bool
     ensures { result ≡ three_values s }
 {
@@ -128,6 +136,7 @@ fn three_values(s: Brent) -> bool
 }
 
 // The guess of a step: by the inverse quadratic where c has another value, otherwise by the chord.
+#[tactic(auto, unfolding(crate::specs::Brent::guess_of))]
 fn guess_of(s: Brent) -> f64
     ensures { result ≡ guess_of s }
 {
@@ -139,6 +148,7 @@ fn guess_of(s: Brent) -> f64
 }
 
 // The first condition: the guess x is not between b and the point a quarter of the way from a to b.
+#[tactic(auto, unfolding(crate::specs::Brent::beyond_quarter))]
 fn beyond_quarter(s: Brent, x: f64) -> bool
     ensures { result ≡ beyond_quarter s x }
 {
@@ -146,6 +156,7 @@ fn beyond_quarter(s: Brent, x: f64) -> bool
 }
 
 // The second or third condition: the guess x is at least half as far from b as p is from q.
+#[tactic(auto, unfolding(crate::specs::Brent::too_slow))]
 fn too_slow(s: Brent, p: f64, q: f64, x: f64) -> bool
     ensures { result ≡ too_slow s p q x }
 {
@@ -153,6 +164,7 @@ fn too_slow(s: Brent, p: f64, q: f64, x: f64) -> bool
 }
 
 // The second and fourth conditions, or the third and fifth, by the two points that the flag picks.
+#[tactic(auto, unfolding(crate::specs::Brent::stalls))]
 fn stalls(stop: StopRule, s: Brent, p: f64, q: f64, x: f64) -> bool
     ensures { result ≡ stalls stop s p q x }
 {
@@ -160,6 +172,7 @@ fn stalls(stop: StopRule, s: Brent, p: f64, q: f64, x: f64) -> bool
 }
 
 // Whether one of the five conditions puts a bisection in place of the guess x.
+#[tactic(auto, unfolding(crate::specs::Brent::bisects))]
 fn bisects(stop: StopRule, s: Brent, x: f64) -> bool
     ensures { result ≡ bisects stop s x }
 {
@@ -174,6 +187,7 @@ fn bisects(stop: StopRule, s: Brent, x: f64) -> bool
 }
 
 // The point that is used: the half of the pair, or the guess x.
+#[tactic(auto, unfolding(crate::specs::Brent::used_of))]
 fn used_of(bisecting: bool, s: Brent, x: f64) -> f64
     ensures { result ≡ used_of bisecting s x }
 {
@@ -183,6 +197,7 @@ fn used_of(bisecting: bool, s: Brent, x: f64) -> f64
 // ---- a step
 
 // The state after a step: its pair is a and b, the b before becomes c, and c becomes d.
+#[tactic(auto, unfolding(crate::specs::Brent::next_of))]
 fn moved(s: Brent, flag: bool, a: Sample, b: Sample) -> Brent
     ensures { result ≡ next_of s flag (record { a = a; b = b }) }
 {
@@ -196,6 +211,7 @@ fn moved(s: Brent, flag: bool, a: Sample, b: Sample) -> Brent
 }
 
 // A step to the two samples, arranged. Each case goes on by itself, which is faster than to choose both ends.
+#[tactic(auto, using(searching::proofs::StepLaws::steps), unfolding(crate::specs::Brent::arrange))]
 fn step_to(s: Brent, flag: bool, one: Sample, other: Sample, progress: Progress) -> Turn<Brent>
     requires { Room 1 progress }
     ensures { (cs : List Float) → viewed result ≡ play tallied (oracle cs) (completes s flag (arrange one other)) progress }
@@ -207,6 +223,7 @@ fn step_to(s: Brent, flag: bool, one: Sample, other: Sample, progress: Progress)
 }
 
 // Rule 1: whether the values have opposite signs. The signs decide, and the product the mark alone: it is set where the product says otherwise.
+#[tactic(auto, unfolding(crate::specs::Brent::step_departs))]
 fn opposite(p: Sample, q: Sample, progress: Progress) -> Decided
     ensures { result ≡ opposite_by p q progress }
 {
@@ -219,6 +236,7 @@ fn opposite(p: Sample, q: Sample, progress: Progress) -> Decided
 }
 
 // Where a has the sign opposite to that of the sample p, a is kept, otherwise b; the kept end has its value.
+#[tactic(auto, using(searching::proofs::StepLaws::steps), unfolding(crate::specs::Brent::arrived, crate::specs::Brent::pair_after, searching::specs::Programs::play))]
 fn arrived(s: Brent, flag: bool, p: Sample, progress: Progress) -> Turn<Brent>
     requires { Room 1 progress }
     ensures { (cs : List Float) → viewed result ≡ play tallied (oracle cs) (arrived s flag p) progress }
@@ -232,6 +250,7 @@ fn arrived(s: Brent, flag: bool, p: Sample, progress: Progress) -> Turn<Brent>
 }
 
 // The point x is evaluated.
+#[tactic(auto, using(searching::proofs::StepLaws::steps), unfolding(crate::specs::Brent::landed))]
 fn landed(a: &[f64], s: Brent, flag: bool, x: f64, progress: Progress) -> Turn<Brent>
     requires { Room 2 progress }
     ensures { viewed result ≡ play tallied (oracle a.now) (landed s flag x) progress }
@@ -244,6 +263,7 @@ fn landed(a: &[f64], s: Brent, flag: bool, x: f64, progress: Progress) -> Turn<B
 }
 
 // A point outside the pair becomes the nearer end.
+#[tactic(auto, using(searching::proofs::StepLaws::steps), unfolding(crate::specs::Brent::pulled_in))]
 fn pulled_in(a: &[f64], s: Brent, flag: bool, x: f64, progress: Progress) -> Turn<Brent>
     requires { Room 2 progress }
     ensures { viewed result ≡ play tallied (oracle a.now) (pulled_in s flag x) progress }
@@ -253,6 +273,7 @@ fn pulled_in(a: &[f64], s: Brent, flag: bool, x: f64, progress: Progress) -> Tur
 }
 
 // Only the point that is used is refused or pulled; the flag is set before.
+#[tactic(auto, using(searching::proofs::StepLaws::steps), unfolding(crate::specs::Brent::step_with))]
 fn step_with(a: &[f64], s: Brent, bisecting: bool, guess: f64, progress: Progress) -> Turn<Brent>
     requires { Room 2 progress }
     ensures { viewed result ≡ play tallied (oracle a.now) (step_with s bisecting guess) progress }
@@ -266,6 +287,7 @@ fn step_with(a: &[f64], s: Brent, bisecting: bool, guess: f64, progress: Progres
 }
 
 // A step from the guess.
+#[tactic(auto, unfolding(crate::specs::Brent::step_from))]
 fn step_from(a: &[f64], stop: StopRule, s: Brent, progress: Progress) -> Turn<Brent>
     requires { Room 2 progress }
     ensures { viewed result ≡ play tallied (oracle a.now) (step_from stop s (guess_of s)) progress }
@@ -285,6 +307,7 @@ impl Search for Steps {
     ghost turn = { turn_from };
 
     // A round: found at a, found at b, converged, and a step.
+    #[tactic(auto, using(searching::proofs::StepLaws::steps), unfolding(crate::specs::Brent::turn_from))]
     fn take_turn(a: &[f64], stop: StopRule, s: Brent, progress: Progress) -> Turn<Brent> {
         if stop.found(s.a.y) {
             return Turn::by_value(s.a, progress);

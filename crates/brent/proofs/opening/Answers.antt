@@ -2,10 +2,6 @@ use Rattle.searching.proofs.StepLaws.{steps}
 use Rattle.brent.specs.Brent.{opening}
 use Rattle.brent.proofs.opening.Goals as goal
 
-pub returns-in_default : goal.returns-in_default
-unfolding opening
-returns-in_default c = λ stop. search steps
-
 pub returns : goal.returns
 unfolding opening
 returns c = λ stop. search (steps, c.first_at.ensures)
