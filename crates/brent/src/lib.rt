@@ -22,6 +22,7 @@ pub struct Arranged {
 }
 
 // The pair a and b, the b before as c, the point before that as d, and whether the last step was a bisection.
+// d is kept through a bisection, as in the Rust, though the next step then reads b and c: an Option would hide that.
 #[derive(Clone, Copy)]
 pub struct Brent {
     pub a: Sample,
@@ -223,6 +224,7 @@ fn step_to(s: Brent, flag: bool, one: Sample, other: Sample, progress: Progress)
 }
 
 // Rule 1: whether the values have opposite signs. The signs decide, and the product the mark alone: it is set where the product says otherwise.
+// `searching::alike` isn't its negation: where a value is zero, neither holds.
 #[tactic(auto, unfolding(crate::specs::Brent::step_departs))]
 fn opposite(p: Sample, q: Sample, progress: Progress) -> Decided
     ensures { result ≡ opposite_by p q progress }
