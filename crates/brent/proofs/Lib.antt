@@ -1,5 +1,4 @@
 -- The laws about what specs/ defines, and the lemmas of the proofs.
-pub mod BrentRule
 pub mod BrentLaws
 pub mod BrentTurns
 pub mod BrentKeeps

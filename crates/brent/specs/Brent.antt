@@ -17,9 +17,6 @@ use Rattle.searching.specs.Programs.{found, converged, ruled, Prog, log, Turned,
 use Rattle.searching.specs.declared.Decided.{Decided}
 use Rattle.brent.specs.declared.Arranged.{Arranged}
 use Rattle.brent.specs.declared.Brent.{Brent}
-use Rattle.brent.specs.declared.To.{To}
-use Rattle.brent.specs.declared.To.TheVariants.{Ended, Next}
-use Rattle.brent.specs.declared.Turn.{Turn}
 
 -- 3 and 4
 abbrev pub three : Float
@@ -172,12 +169,3 @@ brent_program stop a b = searches (opening stop a b) (λ r. turns_of stop) (turn
 
 unfoldable pub brent : List Float → StopRule → Float → Float → Outcome
 brent cs stop a b = answer_of cs (brent_program stop a b)
-
--- ---- what a turn of the code stands for
-
-abbrev pub seen : To → Turned Brent
-seen (Ended a) = ended a
-seen (Next s) = next s
-
-abbrev pub viewed : Turn → Turned Brent × Progress
-viewed t = (seen t.to, t.progress)

@@ -6,12 +6,12 @@ ghost use Rattle.std.specs.Prelude.{◌≡◌, List, ◌≤◌, Float};
 ghost use Rattle.numerical.specs.Tallies.{Room};
 ghost use Rattle.simple_convergency.specs.Stop.{greatest_limit};
 ghost use Rattle.simple_convergency.specs.declared.StopRule.{StopRule};
-ghost use Rattle.searching.specs.Programs.{ended, next, oracle, play, tallied};
-ghost use Rattle.searching.specs.Loops.{Ample, run_of};
-ghost use Rattle.brent.specs.Brent.{arrange, opened, second_at, first_at, opening, inverse_quadratic, chord, three_values, guess_of, beyond_quarter, too_slow, stalls, bisects, used_of, next_of, completes, opposite_by, arrived, landed, pulled_in, step_with, step_from, turn_from, brent, viewed};
+ghost use Rattle.searching.specs.Programs.{oracle, play, tallied};
+ghost use Rattle.searching.specs.Turns.{viewed};
+ghost use Rattle.brent.specs.Brent.{arrange, opened, second_at, first_at, opening, inverse_quadratic, chord, three_values, guess_of, beyond_quarter, too_slow, stalls, bisects, used_of, next_of, completes, opposite_by, arrived, landed, pulled_in, step_with, step_from, turn_from, brent};
 
 use numerical::{Answer, Outcome, Progress, Sample};
-use searching::Decided;
+use searching::{Decided, Search, Turn};
 use simple_convergency::StopRule;
 
 // Two samples, the larger in size first.
@@ -22,6 +22,7 @@ pub struct Arranged {
 }
 
 // The pair a and b, the b before as c, the point before that as d, and whether the last step was a bisection.
+// d is kept through a bisection, as in the Rust, though the next step then reads b and c: an Option would hide that.
 #[derive(Clone, Copy)]
 pub struct Brent {
     pub a: Sample,
@@ -31,37 +32,8 @@ pub struct Brent {
     pub flag: bool,
 }
 
-// Where a turn leads: to the search's end, or to the next state.
-#[derive(Clone, Copy)]
-pub enum To {
-    Ended(Answer),
-    Next(Brent),
-}
-
-// A turn of the search, with what the run has done after it.
-#[derive(Clone, Copy)]
-pub struct Turn {
-    pub to: To,
-    pub progress: Progress,
-}
-
-// The search ends with this answer.
-fn ended(answer: Answer, progress: Progress) -> Turn
-    ensures { viewed result ≡ (ended answer, progress) }
-{
-    let to = To::Ended(answer);
-    Turn { to, progress }
-}
-
-// The search goes on from this state.
-fn goes_on(state: Brent, progress: Progress) -> Turn
-    ensures { viewed result ≡ (next state, progress) }
-{
-    let to = To::Next(state);
-    Turn { to, progress }
-}
-
 // The larger in size comes first, and on a tie the second.
+#[tactic(auto, unfolding(crate::specs::Brent::arrange))]
 fn arrange(p: Sample, q: Sample) -> Arranged
     ensures { result ≡ arrange p q }
 {
@@ -75,17 +47,16 @@ fn arrange(p: Sample, q: Sample) -> Arranged
 // ---- the opening
 
 // Refusal 6, or the first state: c and d are a before any step.
-fn opened(pair: Arranged, p: Progress) -> Turn
-    ensures { (stop : StopRule) (cs : List Float) → viewed result ≡ play tallied (oracle cs) (opened stop pair) p }
+#[tactic(auto, using(searching::proofs::StepLaws::steps), unfolding(crate::specs::Brent::opened, crate::specs::Brent::start_of))]
+fn opened(pair: Arranged, progress: Progress) -> Turn<Brent>
+    ensures { (stop : StopRule) (cs : List Float) → viewed result ≡ play tallied (oracle cs) (opened stop pair) progress }
 {
-    let a = pair.a;
-    let b = pair.b;
-    let decided = searching::alike(a, b, p);
-    let marked = decided.progress;
+    let Arranged { a, b } = pair;
+    let decided = searching::alike(a, b, progress);
     if decided.decision {
-        return ended(Answer::Refused(6), marked);
+        return Turn::refused(6, decided.progress);
     }
-    goes_on(
+    Turn::next(
         Brent {
             a,
             b,
@@ -93,39 +64,40 @@ fn opened(pair: Arranged, p: Progress) -> Turn
             d: a.x,
             flag: true,
         },
-        marked,
+        decided.progress,
     )
 }
 
 // Both values are there: they are arranged, then tested.
-fn second_at(p: Sample, q: Sample, progress: Progress) -> Turn
+#[tactic(auto, unfolding(crate::specs::Brent::second_at))]
+fn second_at(p: Sample, q: Sample, progress: Progress) -> Turn<Brent>
     ensures { (stop : StopRule) (cs : List Float) → viewed result ≡ play tallied (oracle cs) (second_at stop p q) progress }
 {
     opened(arrange(p, q), progress)
 }
 
 // The first value is there: the second is worked out, and nothing is tested yet.
-fn first_at(a: &[f64], to: f64, p: Sample, progress: Progress) -> Turn
+#[tactic(auto, using(searching::proofs::StepLaws::steps), unfolding(crate::specs::Brent::first_at))]
+fn first_at(a: &[f64], to: f64, p: Sample, progress: Progress) -> Turn<Brent>
     requires { Room 1 progress }
     ensures { (stop : StopRule) → viewed result ≡ play tallied (oracle a.now) (first_at stop to p) progress }
 {
     let counted = progress.valued();
-    let e = polynom::evaluate(a, to);
-    let Some(q) = e else {
-        return ended(Answer::Refused(9), counted);
+    let Some(q) = polynom::evaluate(a, to) else {
+        return Turn::refused(9, counted);
     };
     second_at(p, q, counted)
 }
 
 // The starts are evaluated in the order given.
-fn opening(a: &[f64], from: f64, to: f64, progress: Progress) -> Turn
+#[tactic(auto, using(searching::proofs::StepLaws::steps), unfolding(crate::specs::Brent::opening))]
+fn opening(a: &[f64], from: f64, to: f64, progress: Progress) -> Turn<Brent>
     requires { Room 2 progress }
     ensures { (stop : StopRule) → viewed result ≡ play tallied (oracle a.now) (opening stop from to) progress }
 {
     let counted = progress.valued();
-    let e = polynom::evaluate(a, from);
-    let Some(p) = e else {
-        return ended(Answer::Refused(9), counted);
+    let Some(p) = polynom::evaluate(a, from) else {
+        return Turn::refused(9, counted);
     };
     first_at(a, to, p, counted)
 }
@@ -133,6 +105,7 @@ fn opening(a: &[f64], from: f64, to: f64, progress: Progress) -> Turn
 // ---- the candidate
 
 // Where the inverse quadratic through the three samples crosses zero.
+#[tactic(auto, unfolding(crate::specs::Brent::inverse_quadratic))]
 fn inverse_quadratic(s: Brent) -> f64
     ensures { result ≡ inverse_quadratic s }
 {
@@ -148,6 +121,7 @@ fn inverse_quadratic(s: Brent) -> f64
 }
 
 // Where the chord from a to b crosses zero.
+#[tactic(auto, unfolding(crate::specs::Brent::chord))]
 fn chord(s: Brent) -> f64
     ensures { result ≡ chord s }
 {
@@ -155,17 +129,15 @@ fn chord(s: Brent) -> f64
 }
 
 // Whether c has another value than a and than b.
+#[tactic(auto, unfolding(crate::specs::Brent::three_values))]
 fn three_values(s: Brent) -> bool
     ensures { result ≡ three_values s }
 {
-    if s.a.y != s.c.y {
-        s.b.y != s.c.y
-    } else {
-        false
-    }
+    s.a.y != s.c.y && s.b.y != s.c.y
 }
 
 // The guess of a step: by the inverse quadratic where c has another value, otherwise by the chord.
+#[tactic(auto, unfolding(crate::specs::Brent::guess_of))]
 fn guess_of(s: Brent) -> f64
     ensures { result ≡ guess_of s }
 {
@@ -177,6 +149,7 @@ fn guess_of(s: Brent) -> f64
 }
 
 // The first condition: the guess x is not between b and the point a quarter of the way from a to b.
+#[tactic(auto, unfolding(crate::specs::Brent::beyond_quarter))]
 fn beyond_quarter(s: Brent, x: f64) -> bool
     ensures { result ≡ beyond_quarter s x }
 {
@@ -184,6 +157,7 @@ fn beyond_quarter(s: Brent, x: f64) -> bool
 }
 
 // The second or third condition: the guess x is at least half as far from b as p is from q.
+#[tactic(auto, unfolding(crate::specs::Brent::too_slow))]
 fn too_slow(s: Brent, p: f64, q: f64, x: f64) -> bool
     ensures { result ≡ too_slow s p q x }
 {
@@ -191,17 +165,15 @@ fn too_slow(s: Brent, p: f64, q: f64, x: f64) -> bool
 }
 
 // The second and fourth conditions, or the third and fifth, by the two points that the flag picks.
+#[tactic(auto, unfolding(crate::specs::Brent::stalls))]
 fn stalls(stop: StopRule, s: Brent, p: f64, q: f64, x: f64) -> bool
     ensures { result ≡ stalls stop s p q x }
 {
-    if too_slow(s, p, q, x) {
-        true
-    } else {
-        stop.converged(p, q)
-    }
+    too_slow(s, p, q, x) || stop.converged(p, q)
 }
 
 // Whether one of the five conditions puts a bisection in place of the guess x.
+#[tactic(auto, unfolding(crate::specs::Brent::bisects))]
 fn bisects(stop: StopRule, s: Brent, x: f64) -> bool
     ensures { result ≡ bisects stop s x }
 {
@@ -216,6 +188,7 @@ fn bisects(stop: StopRule, s: Brent, x: f64) -> bool
 }
 
 // The point that is used: the half of the pair, or the guess x.
+#[tactic(auto, unfolding(crate::specs::Brent::used_of))]
 fn used_of(bisecting: bool, s: Brent, x: f64) -> f64
     ensures { result ≡ used_of bisecting s x }
 {
@@ -225,31 +198,34 @@ fn used_of(bisecting: bool, s: Brent, x: f64) -> f64
 // ---- a step
 
 // The state after a step: its pair is a and b, the b before becomes c, and c becomes d.
+#[tactic(auto, unfolding(crate::specs::Brent::next_of))]
 fn moved(s: Brent, flag: bool, a: Sample, b: Sample) -> Brent
     ensures { result ≡ next_of s flag (record { a = a; b = b }) }
 {
-    let c = s.b;
     Brent {
         a,
         b,
-        c,
+        c: s.b,
         d: s.c.x,
         flag,
     }
 }
 
 // A step to the two samples, arranged. Each case goes on by itself, which is faster than to choose both ends.
-fn step_to(s: Brent, flag: bool, one: Sample, other: Sample, progress: Progress) -> Turn
+#[tactic(auto, using(searching::proofs::StepLaws::steps), unfolding(crate::specs::Brent::arrange))]
+fn step_to(s: Brent, flag: bool, one: Sample, other: Sample, progress: Progress) -> Turn<Brent>
     requires { Room 1 progress }
     ensures { (cs : List Float) → viewed result ≡ play tallied (oracle cs) (completes s flag (arrange one other)) progress }
 {
     if doubles::abs(one.y) > doubles::abs(other.y) {
-        return goes_on(moved(s, flag, one, other), progress.stepped());
+        return Turn::next(moved(s, flag, one, other), progress.stepped());
     }
-    goes_on(moved(s, flag, other, one), progress.stepped())
+    Turn::next(moved(s, flag, other, one), progress.stepped())
 }
 
 // Rule 1: whether the values have opposite signs. The signs decide, and the product the mark alone: it is set where the product says otherwise.
+// `searching::alike` isn't its negation: where a value is zero, neither holds.
+#[tactic(auto, unfolding(crate::specs::Brent::step_departs))]
 fn opposite(p: Sample, q: Sample, progress: Progress) -> Decided
     ensures { result ≡ opposite_by p q progress }
 {
@@ -262,48 +238,45 @@ fn opposite(p: Sample, q: Sample, progress: Progress) -> Decided
 }
 
 // Where a has the sign opposite to that of the sample p, a is kept, otherwise b; the kept end has its value.
-fn arrived(s: Brent, flag: bool, p: Sample, progress: Progress) -> Turn
+#[tactic(auto, using(searching::proofs::StepLaws::steps), unfolding(crate::specs::Brent::arrived, crate::specs::Brent::pair_after, searching::specs::Programs::play))]
+fn arrived(s: Brent, flag: bool, p: Sample, progress: Progress) -> Turn<Brent>
     requires { Room 1 progress }
     ensures { (cs : List Float) → viewed result ≡ play tallied (oracle cs) (arrived s flag p) progress }
 {
-    let a = s.a;
-    let b = s.b;
-    let apart = opposite(a, p, progress);
-    let marked = apart.progress;
+    let apart = opposite(s.a, p, progress);
     if apart.decision {
-        step_to(s, flag, a, p, marked)
+        step_to(s, flag, s.a, p, apart.progress)
     } else {
-        step_to(s, flag, p, b, marked)
+        step_to(s, flag, p, s.b, apart.progress)
     }
 }
 
 // The point x is evaluated.
-fn landed(a: &[f64], s: Brent, flag: bool, x: f64, progress: Progress) -> Turn
+#[tactic(auto, using(searching::proofs::StepLaws::steps), unfolding(crate::specs::Brent::landed))]
+fn landed(a: &[f64], s: Brent, flag: bool, x: f64, progress: Progress) -> Turn<Brent>
     requires { Room 2 progress }
     ensures { viewed result ≡ play tallied (oracle a.now) (landed s flag x) progress }
 {
     let counted = progress.valued();
-    let e = polynom::evaluate(a, x);
-    let Some(p) = e else {
-        return ended(Answer::Refused(9), counted);
+    let Some(p) = polynom::evaluate(a, x) else {
+        return Turn::refused(9, counted);
     };
     arrived(s, flag, p, counted)
 }
 
 // A point outside the pair becomes the nearer end.
-fn pulled_in(a: &[f64], s: Brent, flag: bool, x: f64, progress: Progress) -> Turn
+#[tactic(auto, using(searching::proofs::StepLaws::steps), unfolding(crate::specs::Brent::pulled_in))]
+fn pulled_in(a: &[f64], s: Brent, flag: bool, x: f64, progress: Progress) -> Turn<Brent>
     requires { Room 2 progress }
     ensures { viewed result ≡ play tallied (oracle a.now) (pulled_in s flag x) progress }
 {
-    let u = s.a.x;
-    let v = s.b.x;
-    let placed = searching::pull(u, v, x, progress);
-    let marked = placed.progress;
-    landed(a, s, flag, placed.x, marked)
+    let placed = searching::pull(s.a.x, s.b.x, x, progress);
+    landed(a, s, flag, placed.x, placed.progress)
 }
 
 // Only the point that is used is refused or pulled; the flag is set before.
-fn step_with(a: &[f64], s: Brent, bisecting: bool, guess: f64, progress: Progress) -> Turn
+#[tactic(auto, using(searching::proofs::StepLaws::steps), unfolding(crate::specs::Brent::step_with))]
+fn step_with(a: &[f64], s: Brent, bisecting: bool, guess: f64, progress: Progress) -> Turn<Brent>
     requires { Room 2 progress }
     ensures { viewed result ≡ play tallied (oracle a.now) (step_with s bisecting guess) progress }
 {
@@ -311,12 +284,13 @@ fn step_with(a: &[f64], s: Brent, bisecting: bool, guess: f64, progress: Progres
     if doubles::is_finite(x) {
         pulled_in(a, s, bisecting, x, progress)
     } else {
-        ended(Answer::Refused(9), progress)
+        Turn::refused(9, progress)
     }
 }
 
 // A step from the guess.
-fn step_from(a: &[f64], stop: StopRule, s: Brent, progress: Progress) -> Turn
+#[tactic(auto, unfolding(crate::specs::Brent::step_from))]
+fn step_from(a: &[f64], stop: StopRule, s: Brent, progress: Progress) -> Turn<Brent>
     requires { Room 2 progress }
     ensures { viewed result ≡ play tallied (oracle a.now) (step_from stop s (guess_of s)) progress }
 {
@@ -324,70 +298,36 @@ fn step_from(a: &[f64], stop: StopRule, s: Brent, progress: Progress) -> Turn
     step_with(a, s, bisects(stop, s, guess), guess, progress)
 }
 
-// A round: found at a, found at b, converged, and a step.
-fn take_turn(a: &[f64], stop: StopRule, s: Brent, p: Progress) -> Turn
-    requires { Room 3 p }
-    ensures { viewed result ≡ play tallied (oracle a.now) (turn_from stop s) p }
-{
-    let first = s.a;
-    let second = s.b;
-    if stop.found(first.y) {
-        return ended(
-            Answer::ByValue {
-                root: first.x,
-                value: first.y,
-            },
-            p,
-        );
-    }
-    if stop.found(second.y) {
-        return ended(
-            Answer::ByValue {
-                root: second.x,
-                value: second.y,
-            },
-            p,
-        );
-    }
-    if stop.converged(first.x, second.x) {
-        return ended(
-            Answer::ByWidth {
-                root: s.c.x,
-                p: first.x,
-                q: second.x,
-            },
-            p,
-        );
-    }
-    step_from(a, stop, s, p)
-}
-
 // ---- the search
 
-// From a state on: at most so many rounds; the last step's sample is not tested.
-fn searched(a: &[f64], stop: StopRule, begun: Brent, progress: Progress, most: u64) -> Outcome
-    requires { (most ≤ greatest_limit) × Ample progress }
-    ensures { result ≡ run_of a.now (turn_from stop) most begun progress }
-{
-    let mut s = begun;
-    let mut p = progress;
-    let mut n: u64 = 0;
-    while n < most {
-        let turn = take_turn(a, stop, s, p);
-        let to = turn.to;
-        p = turn.progress;
-        match to {
-            To::Ended(answer) => return Outcome {
-                answer,
-                progress: p,
-            },
-            To::Next(next) => s = next,
+// The method's rounds, as the loop of searches takes them.
+struct Steps;
+
+impl Search for Steps {
+    type State = Brent;
+
+    ghost turn = { turn_from };
+
+    // A round: found at a, found at b, converged, and a step.
+    #[tactic(auto, using(searching::proofs::StepLaws::steps), unfolding(crate::specs::Brent::turn_from))]
+    fn take_turn(a: &[f64], stop: StopRule, s: Brent, progress: Progress) -> Turn<Brent> {
+        if stop.found(s.a.y) {
+            return Turn::by_value(s.a, progress);
         }
-        n += 1;
-    }
-    Outcome {
-        answer: Answer::Refused(8),
-        progress: p,
+        if stop.found(s.b.y) {
+            return Turn::by_value(s.b, progress);
+        }
+        if stop.converged(s.a.x, s.b.x) {
+            return Turn::ended(
+                Answer::ByWidth {
+                    root: s.c.x,
+                    p: s.a.x,
+                    q: s.b.x,
+                },
+                progress,
+            );
+        }
+        step_from(a, stop, s, progress)
     }
 }
 
@@ -396,11 +336,6 @@ pub fn find_root(a: &[f64], stop: StopRule, from: f64, to: f64) -> Outcome
     requires { stop.limit ≤ greatest_limit }
     ensures { result ≡ brent a.now stop from to }
 {
-    let turn = opening(a, from, to, Progress::fresh());
-    let reached = turn.to;
-    let progress = turn.progress;
-    match reached {
-        To::Ended(answer) => Outcome { answer, progress },
-        To::Next(begun) => searched(a, stop, begun, progress, stop.turns()),
-    }
+    let opened = opening(a, from, to, Progress::fresh());
+    searching::finished::<Steps>(a, stop, opened, stop.turns())
 }

@@ -1,5 +1,5 @@
 -- The polynomial search, step by step as find_root of polynom.rs has it. Definitions only.
-use Rattle.std.specs.Prelude.{Bool, false, cond, Float, List}
+use Rattle.std.specs.Prelude.{Bool, false, cond, Option, Some, None, Float, List}
 use Rattle.std.specs.Float.{binary64}
 use Rattle.std.specs.Float.Ieee.{sub, div, lt, le, ne}
 use Rattle.std.specs.Float.Ieee.Scale.{finite}
@@ -16,11 +16,7 @@ use Rattle.numerical.specs.Middle.{middle_of}
 use Rattle.polynom.specs.declared.ValueAndDerivative.{ValueAndDerivative}
 use Rattle.searching.specs.Programs.{rising, found, converged, ruled, Prog, log, Turned, ended, next, test, stops, answers, by_value, value_at, both_at, offered, pulled_into, product_departs, bracketed, narrows_to, searches, answer_of}
 use Rattle.searching.specs.Rules.{placed_in}
-use Rattle.polynom_search.specs.declared.Middle.{Middle}
-use Rattle.polynom_search.specs.declared.Middle.TheVariants.{In, None}
-use Rattle.polynom_search.specs.declared.To.{To}
-use Rattle.polynom_search.specs.declared.To.TheVariants.{Ended, Next}
-use Rattle.polynom_search.specs.declared.Turn.{Turn}
+use Rattle.searching.specs.declared.Placed.{Placed}
 
 -- ---- the opening: "Both ends are evaluated, then 6, even when an end is within the value tolerance"
 
@@ -106,15 +102,8 @@ polynom_program stop a b = searches (opening stop a b) (λ r. turns_of stop) (tu
 unfoldable pub polynom_search : List Float → StopRule → Float → Float → Outcome
 polynom_search cs stop a b = answer_of cs (polynom_program stop a b)
 
--- ---- what the code's own values stand for
+-- ---- what the code works out before a step
 
 -- `middle` pulled into the pair, with the mark of that, unless it isn't finite
-abbrev pub middle_in : Interval → Progress → Middle
-middle_in i p = cond (finite (middle_of i)) (In (placed_in i.begin.x i.end.x (middle_of i) p)) None
-
-abbrev pub seen : To → Turned Interval
-seen (Ended a) = ended a
-seen (Next i) = next i
-
-abbrev pub viewed : Turn → Turned Interval × Progress
-viewed t = (seen t.to, t.progress)
+abbrev pub middle_in : Interval → Progress → Option Placed
+middle_in i p = cond (finite (middle_of i)) (Some (placed_in i.begin.x i.end.x (middle_of i) p)) None

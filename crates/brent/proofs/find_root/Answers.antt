@@ -1,20 +1,15 @@
-use Rattle.numerical.proofs.TallyLaws.{room}
-use Rattle.searching.proofs.LoopLaws.{opened_room}
-use Rattle.brent.proofs.BrentTurns.{from_end, from_state, small_opening}
-use native.Mathlib.Omega.{arith}
-use borrow.Author.Rules.{rules}
+use Rattle.std.proofs.Common.{arith}
+use Rattle.searching.proofs.LoopLaws.{opened_room, opened_search}
+use Rattle.brent.specs.Brent.{brent, brent_program}
+use Rattle.brent.proofs.BrentTurns.{small_opening, turn_small}
 use Rattle.brent.proofs.find_root.Goals as goal
 
-pub opening-turn-requires : goal.opening-turn-requires
-opening-turn-requires c = search (rules, room)
+pub finished-requires-clause-in_range : goal.finished-requires-clause-in_range
+finished-requires-clause-in_range c = (omega (arith, c.turns.ensures), opened_room _ _ c.fresh.ensures (c.opening-opened.ensures _) (small_opening c.args.stop _ _))
 
-pub searched-requires : goal.searched-requires
-searched-requires c =
-    let opened = c.opening-turn.ensures c.args.stop in
-    (omega (arith, c.turns.ensures), search (opened_room, small_opening, opened))
+pub finished-requires-clause-small : goal.finished-requires-clause-small
+finished-requires-clause-small c = turn_small _
 
-pub returns-in-Ended : goal.returns-in-Ended
-returns-in-Ended c = search (from_end, c.opening-turn.ensures)
-
-pub returns-in-Next : goal.returns-in-Next
-returns-in-Next c = search (from_state, c.opening-turn.ensures)
+pub returns : goal.returns
+unfolding brent brent_program
+returns c = opened_search _ _ c.fresh.ensures (c.opening-opened.ensures _) _ _ c.turns.ensures c.finished.ensures

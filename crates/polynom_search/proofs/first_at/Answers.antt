@@ -2,10 +2,6 @@ use Rattle.searching.proofs.StepLaws.{steps}
 use Rattle.polynom_search.specs.PolynomSearch.{first_at}
 use Rattle.polynom_search.proofs.first_at.Goals as goal
 
-pub returns-in_default : goal.returns-in_default
-unfolding first_at
-returns-in_default c = λ stop. search steps
-
 pub returns : goal.returns
 unfolding first_at
 returns c = λ stop. search (steps, c.second_at.ensures)

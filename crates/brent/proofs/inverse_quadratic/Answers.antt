@@ -1,7 +1,0 @@
-use mathlib.Core.Path.{refl}
-use Rattle.brent.specs.Brent.{inverse_quadratic}
-use Rattle.brent.proofs.inverse_quadratic.Goals as goal
-
-pub returns : goal.returns
-unfolding inverse_quadratic
-returns c = refl
