@@ -13,7 +13,8 @@ use Rattle.simple_convergency.specs.Stop.{greatest_limit, either_bad, checked_of
 use Rattle.simple_convergency.specs.StopLaws.{Good}
 use Rattle.simple_convergency.proofs.StopLaws.{both_good, good_above}
 use Rattle.simple_convergency.specs.declared.StopRule.{StopRule}
-use Rattle.simple_convergency.specs.declared.Checked.TheVariants.{Rule, Refused as RuleRefused}
+use Rattle.std.specs.Prelude.{Ok, Err}
+use Rattle.simple_convergency.specs.declared.BadRule.TheVariants.{Tolerance, Limit}
 use Rattle.searching.specs.Programs.{Prog, done, ask, ask_both, log, Event, asked, asked_both, noted, oracle, play, answer_of}
 use Rattle.searching.specs.Histories.{listed, history, values_in, derivatives_in, steps_in, mark_in}
 use Rattle.searching.proofs.ProgramLaws.{play_counted, tallies_are_counts}
@@ -53,7 +54,7 @@ module _ (a : List Float) (m : Method) (tolerances : Tolerances) (limit : ℕ) w
     where
       go :
           (b c d e f : Bool) →
-          cond b (refused_at_once 1) (cond c (cond d (found_under a m (cond e (RuleRefused 4) (cond f (RuleRefused 5) (Rule (rule_of tolerances limit))))) (refused_at_once 3)) (refused_at_once 2))
+          cond b (refused_at_once 1) (cond c (cond d (found_under a m (cond e (Err Tolerance) (cond f (Err Limit) (Ok (rule_of tolerances limit))))) (refused_at_once 3)) (refused_at_once 2))
           ≡ by_number (cond b 1 (cond c (cond d (cond e 4 (cond f 5 0)) 3) 2))
       go true c d e f = refl
       go false false d e f = refl
