@@ -84,7 +84,7 @@ pub fn order_of(x: f64) -> i64
     if bits >> 63 == 1 { -size } else { size }
 }
 
-// The finite double with the order number k, and a NaN where there is none.
+// The finite double with the order number k, and a NaN where there is none: the definition gives a double for every k, so it is no Option.
 pub fn of_order(k: i64) -> f64
     ensures { result ≡ of_order k }
 {

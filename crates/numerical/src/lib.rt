@@ -38,7 +38,7 @@ pub struct Tally {
     pub derivatives: Derivatives,
 }
 
-// What a run has done so far: its tallies and its mark.
+// What a run has done so far: its tallies and its mark, the number of an added rule, which `records::write` takes from outside as any number.
 #[derive(Clone, Copy)]
 pub struct Progress {
     pub tally: Tally,
@@ -51,7 +51,7 @@ pub enum Answer {
     ByValue { root: f64, value: f64 },
     // The root and the two points whose difference was small enough.
     ByWidth { root: f64, p: f64, q: f64 },
-    // One of the nine refusals, by its number.
+    // One of the nine refusals, by its number: `records::write` takes any number from outside and refuses what is none, so it is no enum.
     Refused(u8),
 }
 
@@ -75,7 +75,7 @@ impl Progress {
         }
     }
 
-    // One value more.
+    // One value more. The room that is left is 3, 2 or 1 within a turn, so it is asked at each count and is no invariant of Progress.
     pub fn valued(self) -> Progress
         requires { Room 1 self }
         ensures { result ≡ valued_of self }

@@ -22,7 +22,7 @@ pub enum Method {
 }
 
 impl Method {
-    // The method of a number from 1 to 5, with its starts; Newton has the first alone.
+    // The method of a number from 1 to 5, with its starts; Newton has the first alone. It takes every number, so it is no TryFrom.
     pub fn numbered(number: u8, first: f64, second: f64) -> Method
         ensures { result ≡ method_of number first second }
     {
@@ -126,7 +126,7 @@ fn all_finite(a: &[f64]) -> bool
     a.iter().all(|x| doubles::is_finite(*x))
 }
 
-// The method's own search, for a call that was checked.
+// The method's own search, for a call that was checked. The methods are five and closed, as the numbers of C: a match, and no closure.
 fn found_by(a: &[f64], stop: StopRule, method: Method) -> Outcome
     requires { stop.limit ≤ greatest_limit }
     ensures { result ≡ found_by a.now stop method }

@@ -66,7 +66,7 @@ impl<S> Turn<S> {
 
 // ---- the loop of turns
 
-// A method: its state, and one turn of it.
+// A method: its state, and one turn of it. In a struct with the reference, clauses would say `lent.entry.a.now` for `a.now`: no plainer.
 pub trait Search {
     type State: Copy;
 

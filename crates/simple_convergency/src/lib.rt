@@ -12,7 +12,7 @@ pub struct Tolerances {
     pub point: f64,
 }
 
-// The two tolerances, and the greatest number of steps.
+// The two tolerances, and the greatest number of steps. Theorems speak of rules of any limit (`found_at`, `turns_of`), so 400 is no invariant here: find_root asks for it.
 #[derive(Clone, Copy)]
 pub struct StopRule {
     pub tolerances: Tolerances,

@@ -11,6 +11,6 @@ pub returns-else-departed : goal.returns-else-departed
 unfolding mark_after
 returns-else-departed c =
     elim c.else-departed.branch [
-      else-departed-via-then-departed+else-self-eq0 w ↦ simp (mark_after, w.if-departed.true, ne_eqb _ _ w.if-self-eq0.false)
-    | else-departed-via-else-departed w ↦ simp (mark_after, w.if-departed.false)
+      | else-departed-via-then-departed+else-self-eq0 w ↦ simp (mark_after, w.if-departed.true, ne_eqb _ _ w.if-self-eq0.false)
+      | else-departed-via-else-departed w ↦ simp (mark_after, w.if-departed.false)
     ]
