@@ -38,6 +38,7 @@ pub struct Illinois {
 // ---- the opening
 
 // Both values are there: the second is found, or the two have the same sign, or they are the first pair.
+#[tactic(auto, using(searching::proofs::StepLaws::steps), unfolding(crate::specs::RegulaFalsi::second_at))]
 fn second_at(stop: StopRule, p: Sample, q: Sample, progress: Progress) -> Turn<Illinois>
     ensures { (cs : List Float) → viewed result ≡ play tallied (oracle cs) (second_at stop p q) progress }
 {
@@ -59,6 +60,7 @@ fn second_at(stop: StopRule, p: Sample, q: Sample, progress: Progress) -> Turn<I
 }
 
 // The first value is there: it is found, or the second is worked out.
+#[tactic(auto, using(searching::proofs::StepLaws::steps), unfolding(crate::specs::RegulaFalsi::first_at))]
 fn first_at(a: &[f64], stop: StopRule, x2: f64, p: Sample, progress: Progress) -> Turn<Illinois>
     requires { Room 1 progress }
     ensures { viewed result ≡ play tallied (oracle a.now) (first_at stop x2 p) progress }
@@ -74,6 +76,7 @@ fn first_at(a: &[f64], stop: StopRule, x2: f64, p: Sample, progress: Progress) -
 }
 
 // The opening from starts that are in order: the first is evaluated.
+#[tactic(auto, using(searching::proofs::StepLaws::steps), unfolding(crate::specs::RegulaFalsi::ordered))]
 fn ordered(a: &[f64], stop: StopRule, x1: f64, x2: f64, progress: Progress) -> Turn<Illinois>
     requires { Room 2 progress }
     ensures { viewed result ≡ play tallied (oracle a.now) (ordered stop x1 x2) progress }
@@ -97,6 +100,7 @@ fn opening(a: &[f64], stop: StopRule, from: f64, to: f64, progress: Progress) ->
 // ---- a step
 
 // Where the chord through the weights crosses zero.
+#[tactic(auto, unfolding(crate::specs::RegulaFalsi::candidate_of))]
 fn candidate(s: Illinois) -> f64
     ensures { result ≡ candidate_of s }
 {
@@ -155,6 +159,7 @@ fn right_replaced(s: Illinois, p: Sample) -> Illinois
 }
 
 // The sample takes the place of the end whose sign it shares.
+#[tactic(auto, using(numerical::proofs::Choices::choices), unfolding(crate::specs::RegulaFalsi::replaced_of))]
 fn replaced(s: Illinois, p: Sample) -> Illinois
     ensures { result ≡ replaced_of s p }
 {
@@ -166,6 +171,7 @@ fn replaced(s: Illinois, p: Sample) -> Illinois
 }
 
 // Rule 1: whether the Rust, which tests the products with the weights in turn and has a last branch, would go elsewhere.
+#[tactic(auto, using(crate::proofs::RegulaFalsiLaws::elsewhere_tests), unfolding(crate::specs::RegulaFalsi::departs))]
 fn departs(s: Illinois, p: Sample) -> bool
     ensures { result ≡ departs s p }
 {
@@ -176,6 +182,7 @@ fn departs(s: Illinois, p: Sample) -> bool
 }
 
 // The sample at the candidate is found, or the signs of the samples pick the end that it replaces. The products with the weights decide the mark alone.
+#[tactic(auto, using(searching::proofs::StepLaws::steps), unfolding(crate::specs::RegulaFalsi::arrived))]
 fn arrived(stop: StopRule, s: Illinois, sample: Sample, p: Progress) -> Turn<Illinois>
     requires { Room 1 p }
     ensures { (cs : List Float) → viewed result ≡ play tallied (oracle cs) (arrived stop s sample) p }
@@ -188,6 +195,7 @@ fn arrived(stop: StopRule, s: Illinois, sample: Sample, p: Progress) -> Turn<Ill
 }
 
 // The pair is small enough and x is the answer, or x is evaluated.
+#[tactic(auto, using(searching::proofs::StepLaws::steps), unfolding(crate::specs::RegulaFalsi::landed))]
 fn landed(a: &[f64], stop: StopRule, s: Illinois, x: f64, p: Progress) -> Turn<Illinois>
     requires { Room 2 p }
     ensures { viewed result ≡ play tallied (oracle a.now) (landed stop s x) p }
@@ -212,6 +220,7 @@ fn landed(a: &[f64], stop: StopRule, s: Illinois, x: f64, p: Progress) -> Turn<I
 }
 
 // A candidate outside the pair becomes the nearer end.
+#[tactic(auto, using(searching::proofs::StepLaws::steps), unfolding(crate::specs::RegulaFalsi::pulled_in))]
 fn pulled_in(a: &[f64], stop: StopRule, s: Illinois, x: f64, p: Progress) -> Turn<Illinois>
     requires { Room 2 p }
     ensures { viewed result ≡ play tallied (oracle a.now) (pulled_in stop s x) p }
@@ -233,6 +242,7 @@ impl Search for Steps {
     ghost turn = { turn_from };
 
     // One step: the candidate is refused if it isn't finite, and else pulled.
+    #[tactic(auto, using(searching::proofs::StepLaws::steps), unfolding(crate::specs::RegulaFalsi::turn_from))]
     fn take_turn(a: &[f64], stop: StopRule, s: Illinois, p: Progress) -> Turn<Illinois> {
         let x = candidate(s);
         if doubles::is_finite(x) {
