@@ -2,12 +2,12 @@
 
 #![tactic(auto)]
 
-ghost use Rattle.std.specs.Prelude.{◌≡◌, List, ◌≤◌, Float};
+ghost use Rattle.std.specs.Prelude.{◌≡◌, List, ◌≤◌, Float, cond};
 ghost use Rattle.numerical.specs.Tallies.{Room};
 ghost use Rattle.simple_convergency.specs.Stop.{greatest_limit};
 ghost use Rattle.searching.specs.Programs.{oracle, play, tallied};
 ghost use Rattle.searching.specs.Turns.{viewed};
-ghost use Rattle.regula_falsi.specs.RegulaFalsi.{halved, second_at, first_at, ordered, opening, candidate_of, right_after, left_after, left_replaced, right_replaced, replaced_of, departs, arrived, landed, pulled_in, turn_from, regula_falsi};
+ghost use Rattle.regula_falsi.specs.RegulaFalsi.{whole, halved, second_at, first_at, ordered, opening, candidate_of, left_replaced, right_replaced, replaced_of, departs, arrived, landed, pulled_in, turn_from, regula_falsi};
 
 use numerical::{Answer, Outcome, Progress, Sample};
 use searching::{Search, Turn};
@@ -35,6 +35,13 @@ pub struct Illinois {
     pub edge: Edge,
 }
 
+// An end with its full weight.
+fn whole(at: Sample) -> End
+    ensures { result ≡ whole at }
+{
+    End { at, weight: at.y }
+}
+
 // ---- the opening
 
 // Both values are there: the second is found, or the two have the same sign, or they are the first pair.
@@ -51,8 +58,8 @@ fn second_at(stop: StopRule, p: Sample, q: Sample, progress: Progress) -> Turn<I
     }
     Turn::next(
         Illinois {
-            left: End { at: p, weight: p.y },
-            right: End { at: q, weight: q.y },
+            left: whole(p),
+            right: whole(q),
             edge: Edge::NoEdge,
         },
         decided.progress,
@@ -116,24 +123,11 @@ fn halve(e: End) -> End
     }
 }
 
-// The right end once the left is replaced: at half its weight if the step before replaced the left too.
-fn right_after(edge: Edge, e: End) -> End
-    ensures { result ≡ right_after edge e }
+// The end that stays: at half its weight if the step before replaced the same end as this one.
+fn kept(e: End, again: bool) -> End
+    ensures { result ≡ cond again (halved e) e }
 {
-    match edge {
-        Edge::EdgeX1 => halve(e),
-        Edge::NoEdge | Edge::EdgeX2 => e,
-    }
-}
-
-// The left end once the right is replaced: at half its weight if the step before replaced the right too.
-fn left_after(edge: Edge, e: End) -> End
-    ensures { result ≡ left_after edge e }
-{
-    match edge {
-        Edge::EdgeX1 | Edge::NoEdge => e,
-        Edge::EdgeX2 => halve(e),
-    }
+    if again { halve(e) } else { e }
 }
 
 // The sample takes the left end's place.
@@ -141,8 +135,8 @@ fn left_replaced(s: Illinois, p: Sample) -> Illinois
     ensures { result ≡ left_replaced s p }
 {
     Illinois {
-        left: End { at: p, weight: p.y },
-        right: right_after(s.edge, s.right),
+        left: whole(p),
+        right: kept(s.right, matches!(s.edge, Edge::EdgeX1)),
         edge: Edge::EdgeX1,
     }
 }
@@ -152,8 +146,8 @@ fn right_replaced(s: Illinois, p: Sample) -> Illinois
     ensures { result ≡ right_replaced s p }
 {
     Illinois {
-        left: left_after(s.edge, s.left),
-        right: End { at: p, weight: p.y },
+        left: kept(s.left, matches!(s.edge, Edge::EdgeX2)),
+        right: whole(p),
         edge: Edge::EdgeX2,
     }
 }
