@@ -219,9 +219,7 @@ fn pulled_in(a: &[f64], stop: StopRule, s: Illinois, x: f64, p: Progress) -> Tur
     requires { Room 2 p }
     ensures { viewed result ≡ play tallied (oracle a.now) (pulled_in stop s x) p }
 {
-    let x1 = s.left.at.x;
-    let x2 = s.right.at.x;
-    let placed = searching::pull(x1, x2, x, p);
+    let placed = searching::pull(s.left.at.x, s.right.at.x, x, p);
     landed(a, stop, s, placed.x, placed.progress)
 }
 
