@@ -1,8 +1,7 @@
 -- What the laws of searches give for Newton's method: the loop's shape, its counts and its bounds.
-use Rattle.std.specs.Prelude.{ℕ, ◌+◌, ◌*◌, ◌-◌, ◌≤◌, max, Bool, true, false, cond, List, ◌≡◌, Float}
+use Rattle.std.specs.Prelude.{◌+◌, ◌*◌, ◌-◌, ◌≤◌, max, Bool, true, false, cond, List, Float}
 use Rattle.std.proofs.Common.{arith, mul-one}
 use Rattle.numerical.specs.Tallies.{fresh}
-use Rattle.simple_convergency.specs.Stop.{greatest_limit}
 use Rattle.simple_convergency.specs.declared.StopRule.{StopRule}
 use Rattle.polynom.specs.declared.ValueAndDerivative.{ValueAndDerivative}
 use Rattle.searching.specs.Programs.{Turned, ended, next}
@@ -37,16 +36,13 @@ pub small_opening : (stop : StopRule) (start : Float) → Within 3 3 3 (opening 
 small_opening stop start = within_less (within_opening stop start) (omega arith) (omega arith) (omega arith)
 
 -- at most max 2 limit - 1 passes are left after the first
-left_most : (stop : StopRule) (r : Turned Spot) → turns_left stop r ≤ max 2 stop.limit - 1
+pub left_most : (stop : StopRule) (r : Turned Spot) → turns_left stop r ≤ max 2 stop.limit - 1
 left_most stop (ended a) = omega arith
 left_most stop (next s) = either s.nudged
   where
     either : (b : Bool) → cond b (max 1 (stop.limit - 1)) (stop.limit - 1) ≤ max 2 stop.limit - 1
     either true = omega arith
     either false = omega arith
-
-pub left_few : (stop : StopRule) {most : ℕ} (r : Turned Spot) → stop.limit ≤ greatest_limit → most ≡ turns_left stop r → most ≤ greatest_limit
-left_few stop r h e = omega (arith, left_most stop r)
 
 module _ (a : List Float) (stop : StopRule) (start : Float) where
   -- what the law of bounds says of the whole search

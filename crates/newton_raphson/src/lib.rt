@@ -25,6 +25,7 @@ pub struct Spot {
 // ---- a step
 
 // Where the tangent crosses zero.
+#[tactic(auto, unfolding(crate::specs::NewtonRaphson::newton_point))]
 fn newton_point(v: ValueAndDerivative) -> f64
     ensures { result ≡ newton_point v }
 {
@@ -32,6 +33,7 @@ fn newton_point(v: ValueAndDerivative) -> f64
 }
 
 // The next point is close to this one, or the search goes on there.
+#[tactic(auto, using(searching::proofs::StepLaws::steps), unfolding(crate::specs::NewtonRaphson::landed))]
 fn landed(stop: StopRule, x: f64, x1: f64, progress: Progress) -> Turn<Spot>
     requires { Room 1 progress }
     ensures { (cs : List Float) → viewed result ≡ play tallied (oracle cs) (landed stop x x1) progress }
@@ -56,6 +58,7 @@ fn landed(stop: StopRule, x: f64, x1: f64, progress: Progress) -> Turn<Spot>
 }
 
 // The next point must be finite.
+#[tactic(auto, using(searching::proofs::StepLaws::steps), unfolding(crate::specs::NewtonRaphson::onward))]
 fn onward(stop: StopRule, v: ValueAndDerivative, progress: Progress) -> Turn<Spot>
     requires { Room 1 progress }
     ensures { (cs : List Float) → viewed result ≡ play tallied (oracle cs) (onward stop v) progress }
@@ -86,6 +89,7 @@ fn later_at(stop: StopRule, v: ValueAndDerivative, progress: Progress) -> Turn<S
 // ---- the opening is the first pass, which may nudge
 
 // A flat start is left by 1.
+#[tactic(auto, using(searching::proofs::StepLaws::steps), unfolding(crate::specs::NewtonRaphson::nudge, crate::specs::NewtonRaphson::nudged_to))]
 fn nudge(x: f64, progress: Progress) -> Turn<Spot>
     requires { Room 1 progress }
     ensures { (cs : List Float) → viewed result ≡ play tallied (oracle cs) (nudge x) progress }
@@ -99,6 +103,7 @@ fn nudge(x: f64, progress: Progress) -> Turn<Spot>
 }
 
 // The first pass: found, or flat and nudged, or a step.
+#[tactic(auto, using(searching::proofs::StepLaws::steps), unfolding(crate::specs::NewtonRaphson::first_at))]
 fn first_at(stop: StopRule, v: ValueAndDerivative, progress: Progress) -> Turn<Spot>
     requires { Room 1 progress }
     ensures { (cs : List Float) → viewed result ≡ play tallied (oracle cs) (first_at stop v) progress }
@@ -113,6 +118,7 @@ fn first_at(stop: StopRule, v: ValueAndDerivative, progress: Progress) -> Turn<S
 }
 
 // The first pass evaluates the start.
+#[tactic(auto, using(searching::proofs::StepLaws::steps), unfolding(crate::specs::NewtonRaphson::opening))]
 fn opening(a: &[f64], stop: StopRule, start: f64, progress: Progress) -> Turn<Spot>
     requires { Room 2 progress }
     ensures { viewed result ≡ play tallied (oracle a.now) (opening stop start) progress }
@@ -148,6 +154,7 @@ impl Search for Passes {
     ghost turn = { turn_from };
 
     // A pass after the first evaluates the point at hand.
+    #[tactic(auto, using(searching::proofs::StepLaws::steps), unfolding(crate::specs::NewtonRaphson::turn_from))]
     fn take_turn(a: &[f64], stop: StopRule, s: Spot, progress: Progress) -> Turn<Spot> {
         let counted = progress.sloped();
         let Some(v) = polynom::evaluate_both(a, s.x) else {

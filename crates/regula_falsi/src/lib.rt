@@ -2,12 +2,12 @@
 
 #![tactic(auto)]
 
-ghost use Rattle.std.specs.Prelude.{◌≡◌, List, ◌≤◌, Float};
+ghost use Rattle.std.specs.Prelude.{◌≡◌, List, ◌≤◌, Float, cond};
 ghost use Rattle.numerical.specs.Tallies.{Room};
 ghost use Rattle.simple_convergency.specs.Stop.{greatest_limit};
 ghost use Rattle.searching.specs.Programs.{oracle, play, tallied};
 ghost use Rattle.searching.specs.Turns.{viewed};
-ghost use Rattle.regula_falsi.specs.RegulaFalsi.{halved, second_at, first_at, ordered, opening, candidate_of, right_after, left_after, left_replaced, right_replaced, replaced_of, departs, arrived, landed, pulled_in, turn_from, regula_falsi};
+ghost use Rattle.regula_falsi.specs.RegulaFalsi.{whole, halved, second_at, first_at, ordered, opening, candidate_of, left_replaced, right_replaced, replaced_of, departs, arrived, landed, pulled_in, turn_from, regula_falsi};
 
 use numerical::{Answer, Outcome, Progress, Sample};
 use searching::{Search, Turn};
@@ -35,9 +35,17 @@ pub struct Illinois {
     pub edge: Edge,
 }
 
+// An end with its full weight.
+fn whole(at: Sample) -> End
+    ensures { result ≡ whole at }
+{
+    End { at, weight: at.y }
+}
+
 // ---- the opening
 
 // Both values are there: the second is found, or the two have the same sign, or they are the first pair.
+#[tactic(auto, using(searching::proofs::StepLaws::steps), unfolding(crate::specs::RegulaFalsi::second_at))]
 fn second_at(stop: StopRule, p: Sample, q: Sample, progress: Progress) -> Turn<Illinois>
     ensures { (cs : List Float) → viewed result ≡ play tallied (oracle cs) (second_at stop p q) progress }
 {
@@ -50,8 +58,8 @@ fn second_at(stop: StopRule, p: Sample, q: Sample, progress: Progress) -> Turn<I
     }
     Turn::next(
         Illinois {
-            left: End { at: p, weight: p.y },
-            right: End { at: q, weight: q.y },
+            left: whole(p),
+            right: whole(q),
             edge: Edge::NoEdge,
         },
         decided.progress,
@@ -59,6 +67,7 @@ fn second_at(stop: StopRule, p: Sample, q: Sample, progress: Progress) -> Turn<I
 }
 
 // The first value is there: it is found, or the second is worked out.
+#[tactic(auto, using(searching::proofs::StepLaws::steps), unfolding(crate::specs::RegulaFalsi::first_at))]
 fn first_at(a: &[f64], stop: StopRule, x2: f64, p: Sample, progress: Progress) -> Turn<Illinois>
     requires { Room 1 progress }
     ensures { viewed result ≡ play tallied (oracle a.now) (first_at stop x2 p) progress }
@@ -74,6 +83,7 @@ fn first_at(a: &[f64], stop: StopRule, x2: f64, p: Sample, progress: Progress) -
 }
 
 // The opening from starts that are in order: the first is evaluated.
+#[tactic(auto, using(searching::proofs::StepLaws::steps), unfolding(crate::specs::RegulaFalsi::ordered))]
 fn ordered(a: &[f64], stop: StopRule, x1: f64, x2: f64, progress: Progress) -> Turn<Illinois>
     requires { Room 2 progress }
     ensures { viewed result ≡ play tallied (oracle a.now) (ordered stop x1 x2) progress }
@@ -97,6 +107,7 @@ fn opening(a: &[f64], stop: StopRule, from: f64, to: f64, progress: Progress) ->
 // ---- a step
 
 // Where the chord through the weights crosses zero.
+#[tactic(auto, unfolding(crate::specs::RegulaFalsi::candidate_of))]
 fn candidate(s: Illinois) -> f64
     ensures { result ≡ candidate_of s }
 {
@@ -112,24 +123,11 @@ fn halve(e: End) -> End
     }
 }
 
-// The right end once the left is replaced: at half its weight if the step before replaced the left too.
-fn right_after(edge: Edge, e: End) -> End
-    ensures { result ≡ right_after edge e }
+// The end that stays: at half its weight if the step before replaced the same end as this one.
+fn kept(e: End, again: bool) -> End
+    ensures { result ≡ cond again (halved e) e }
 {
-    match edge {
-        Edge::EdgeX1 => halve(e),
-        Edge::NoEdge | Edge::EdgeX2 => e,
-    }
-}
-
-// The left end once the right is replaced: at half its weight if the step before replaced the right too.
-fn left_after(edge: Edge, e: End) -> End
-    ensures { result ≡ left_after edge e }
-{
-    match edge {
-        Edge::EdgeX1 | Edge::NoEdge => e,
-        Edge::EdgeX2 => halve(e),
-    }
+    if again { halve(e) } else { e }
 }
 
 // The sample takes the left end's place.
@@ -137,8 +135,8 @@ fn left_replaced(s: Illinois, p: Sample) -> Illinois
     ensures { result ≡ left_replaced s p }
 {
     Illinois {
-        left: End { at: p, weight: p.y },
-        right: right_after(s.edge, s.right),
+        left: whole(p),
+        right: kept(s.right, matches!(s.edge, Edge::EdgeX1)),
         edge: Edge::EdgeX1,
     }
 }
@@ -148,13 +146,14 @@ fn right_replaced(s: Illinois, p: Sample) -> Illinois
     ensures { result ≡ right_replaced s p }
 {
     Illinois {
-        left: left_after(s.edge, s.left),
-        right: End { at: p, weight: p.y },
+        left: kept(s.left, matches!(s.edge, Edge::EdgeX2)),
+        right: whole(p),
         edge: Edge::EdgeX2,
     }
 }
 
 // The sample takes the place of the end whose sign it shares.
+#[tactic(auto, using(numerical::proofs::Choices::choices), unfolding(crate::specs::RegulaFalsi::replaced_of))]
 fn replaced(s: Illinois, p: Sample) -> Illinois
     ensures { result ≡ replaced_of s p }
 {
@@ -166,6 +165,7 @@ fn replaced(s: Illinois, p: Sample) -> Illinois
 }
 
 // Rule 1: whether the Rust, which tests the products with the weights in turn and has a last branch, would go elsewhere.
+#[tactic(auto, using(crate::proofs::RegulaFalsiLaws::elsewhere_tests), unfolding(crate::specs::RegulaFalsi::departs))]
 fn departs(s: Illinois, p: Sample) -> bool
     ensures { result ≡ departs s p }
 {
@@ -176,6 +176,7 @@ fn departs(s: Illinois, p: Sample) -> bool
 }
 
 // The sample at the candidate is found, or the signs of the samples pick the end that it replaces. The products with the weights decide the mark alone.
+#[tactic(auto, using(searching::proofs::StepLaws::steps), unfolding(crate::specs::RegulaFalsi::arrived))]
 fn arrived(stop: StopRule, s: Illinois, sample: Sample, p: Progress) -> Turn<Illinois>
     requires { Room 1 p }
     ensures { (cs : List Float) → viewed result ≡ play tallied (oracle cs) (arrived stop s sample) p }
@@ -188,6 +189,7 @@ fn arrived(stop: StopRule, s: Illinois, sample: Sample, p: Progress) -> Turn<Ill
 }
 
 // The pair is small enough and x is the answer, or x is evaluated.
+#[tactic(auto, using(searching::proofs::StepLaws::steps), unfolding(crate::specs::RegulaFalsi::landed))]
 fn landed(a: &[f64], stop: StopRule, s: Illinois, x: f64, p: Progress) -> Turn<Illinois>
     requires { Room 2 p }
     ensures { viewed result ≡ play tallied (oracle a.now) (landed stop s x) p }
@@ -212,13 +214,12 @@ fn landed(a: &[f64], stop: StopRule, s: Illinois, x: f64, p: Progress) -> Turn<I
 }
 
 // A candidate outside the pair becomes the nearer end.
+#[tactic(auto, using(searching::proofs::StepLaws::steps), unfolding(crate::specs::RegulaFalsi::pulled_in))]
 fn pulled_in(a: &[f64], stop: StopRule, s: Illinois, x: f64, p: Progress) -> Turn<Illinois>
     requires { Room 2 p }
     ensures { viewed result ≡ play tallied (oracle a.now) (pulled_in stop s x) p }
 {
-    let x1 = s.left.at.x;
-    let x2 = s.right.at.x;
-    let placed = searching::pull(x1, x2, x, p);
+    let placed = searching::pull(s.left.at.x, s.right.at.x, x, p);
     landed(a, stop, s, placed.x, placed.progress)
 }
 
@@ -233,6 +234,7 @@ impl Search for Steps {
     ghost turn = { turn_from };
 
     // One step: the candidate is refused if it isn't finite, and else pulled.
+    #[tactic(auto, using(searching::proofs::StepLaws::steps), unfolding(crate::specs::RegulaFalsi::turn_from))]
     fn take_turn(a: &[f64], stop: StopRule, s: Illinois, p: Progress) -> Turn<Illinois> {
         let x = candidate(s);
         if doubles::is_finite(x) {

@@ -1,15 +1,10 @@
 -- What the laws of searches give for the secant method: the loop's shape, its counts and its bounds.
-use Rattle.std.specs.Prelude.{ℕ, ◌+◌, ◌*◌, ◌≤◌, List, ◌≡◌, refl, Float}
+use Rattle.std.specs.Prelude.{◌+◌, ◌*◌, ◌≤◌, List, Float}
 use Rattle.std.proofs.Common.{arith, mul-one, mul-zero}
 use Rattle.std.proofs.Math.Nat.{le_refl}
-use Rattle.numerical.specs.Answers.{outcome}
 use Rattle.numerical.specs.Tallies.{fresh}
-use Rattle.numerical.specs.declared.Answer.{Answer}
-use Rattle.numerical.specs.declared.Outcome.{Outcome}
-use Rattle.numerical.specs.declared.Progress.{Progress}
 use Rattle.simple_convergency.specs.Stop.{turns_of}
 use Rattle.simple_convergency.specs.declared.StopRule.{StopRule}
-use Rattle.searching.specs.Programs.{oracle, play, tallied}
 use Rattle.searching.specs.Bounds.{Within, More}
 use Rattle.searching.proofs.BoundLaws.{within_done, within_stops, within_value, within_offered, within_steps, within_less, within_searches, answer_within}
 use Rattle.secant.specs.Secant.{second_at, first_at, opening, arrived, landed, turn_from, secant_program, secant}

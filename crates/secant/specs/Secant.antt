@@ -8,7 +8,7 @@ use Rattle.numerical.specs.declared.Outcome.{Outcome}
 use Rattle.numerical.specs.declared.Sample.{Sample}
 use Rattle.simple_convergency.specs.Stop.{turns_of}
 use Rattle.simple_convergency.specs.declared.StopRule.{StopRule}
-use Rattle.searching.specs.Programs.{found, converged, flat, Prog, done, Turned, ended, next, stops, answers, refuses, by_value, value_at, offered, steps_to, searches, answer_of}
+use Rattle.searching.specs.Programs.{found, converged, flat, Prog, done, Turned, next, stops, answers, refuses, by_value, value_at, offered, steps_to, searches, answer_of}
 use Rattle.secant.specs.declared.Secant.{Secant}
 
 -- ---- the opening: "Found is tested on the first point before the second is evaluated"

@@ -23,6 +23,7 @@ pub struct Secant {
 // ---- the opening
 
 // Both starts were evaluated: the second is found, or the two are the first state.
+#[tactic(auto, using(searching::proofs::StepLaws::steps), unfolding(crate::specs::Secant::second_at))]
 fn second_at(stop: StopRule, first: Sample, second: Sample, progress: Progress) -> Turn<Secant>
     ensures { (cs : List Float) → viewed result ≡ play tallied (oracle cs) (second_at stop first second) progress }
 {
@@ -33,6 +34,7 @@ fn second_at(stop: StopRule, first: Sample, second: Sample, progress: Progress) 
 }
 
 // The first start was evaluated: it is found, or the second is evaluated.
+#[tactic(auto, using(searching::proofs::StepLaws::steps), unfolding(crate::specs::Secant::first_at))]
 fn first_at(a: &[f64], stop: StopRule, second: f64, p: Sample, progress: Progress) -> Turn<Secant>
     requires { Room 1 progress }
     ensures { viewed result ≡ play tallied (oracle a.now) (first_at stop second p) progress }
@@ -48,6 +50,7 @@ fn first_at(a: &[f64], stop: StopRule, second: f64, p: Sample, progress: Progres
 }
 
 // The first start is evaluated.
+#[tactic(auto, using(searching::proofs::StepLaws::steps), unfolding(crate::specs::Secant::opening))]
 fn opening(a: &[f64], stop: StopRule, first: f64, second: f64, progress: Progress) -> Turn<Secant>
     requires { Room 2 progress }
     ensures { viewed result ≡ play tallied (oracle a.now) (opening stop first second) progress }
@@ -62,6 +65,7 @@ fn opening(a: &[f64], stop: StopRule, first: f64, second: f64, progress: Progres
 // ---- a step
 
 // Where the line through the two points crosses zero.
+#[tactic(auto, unfolding(crate::specs::Secant::candidate_of))]
 fn candidate(s: Secant) -> f64
     ensures { result ≡ candidate_of s }
 {
@@ -69,6 +73,7 @@ fn candidate(s: Secant) -> f64
 }
 
 // The candidate was evaluated: it is found, or the two last points go on.
+#[tactic(auto, using(searching::proofs::StepLaws::steps), unfolding(crate::specs::Secant::arrived))]
 fn arrived(stop: StopRule, s: Secant, second: Sample, progress: Progress) -> Turn<Secant>
     requires { Room 1 progress }
     ensures { (cs : List Float) → viewed result ≡ play tallied (oracle cs) (arrived stop s second) progress }
@@ -81,6 +86,7 @@ fn arrived(stop: StopRule, s: Secant, second: Sample, progress: Progress) -> Tur
 }
 
 // The candidate is close to the last point, or it is evaluated.
+#[tactic(auto, using(searching::proofs::StepLaws::steps), unfolding(crate::specs::Secant::landed))]
 fn landed(a: &[f64], stop: StopRule, s: Secant, x: f64, progress: Progress) -> Turn<Secant>
     requires { Room 2 progress }
     ensures { viewed result ≡ play tallied (oracle a.now) (landed stop s x) progress }

@@ -14,6 +14,7 @@ use searching::{Search, Turn};
 use simple_convergency::StopRule;
 
 // The sample is found, or the walk goes one further.
+#[tactic(auto, using(searching::proofs::StepLaws::steps), unfolding(crate::specs::Walking::seen_at))]
 fn seen_at(stop: StopRule, s: Sample, p: Progress) -> Turn<f64>
     requires { Room 1 p }
     ensures { (cs : List Float) → viewed result ≡ play tallied (oracle cs) (seen_at stop s) p }
@@ -38,6 +39,7 @@ impl Search for Steps {
     ghost turn = { turn_from };
 
     // One turn evaluates the point at hand.
+    #[tactic(auto, using(searching::proofs::StepLaws::steps), unfolding(crate::specs::Walking::turn_from))]
     fn take_turn(a: &[f64], stop: StopRule, x: f64, p: Progress) -> Turn<f64> {
         let counted = p.valued();
         let Some(s) = polynom::evaluate(a, x) else {
