@@ -1,5 +1,5 @@
 -- A playback that goes on: what the verdict over some bytes says of the verdict over these and more.
-use Rattle.std.specs.Prelude.{ℕ, ◌+◌, ◌-◌, ◌≤◌, ◌<◌, List, [], ◌∷◌, ◌++◌, ◌≡◌, refl, length, drop}
+use Rattle.std.specs.Prelude.{ℕ, ◌+◌, ◌-◌, ◌≤◌, ◌<◌, List, [], ◌∷◌, ◌++◌, Option, None, Some, ◌≡◌, refl, length, drop}
 use Rattle.std.proofs.Common.{add_assoc, add-zero, arith, ap, sym, ◌∙◌, subst, length-drop, length-append, drop-drop}
 use Rattle.std.proofs.lemmas.List.{drop-append-le}
 use Rattle.records.specs.Records.{bytes_of, reading_of}
@@ -10,9 +10,7 @@ use Rattle.records.specs.declared.Reading.{Reading}
 use Rattle.records.specs.declared.Verdict.TheVariants as verdict
 use Rattle.playback.specs.Playback.{compared_in, settled, verdict_over, series_in, played_from, played_back}
 use Rattle.playback.proofs.PlaybackLaws.{played_none, played_refused, played_differs, played_on, by_records}
-use Rattle.playback.specs.declared.Comparison.{Comparison}
-use Rattle.playback.specs.declared.Comparison.TheVariants.{Same, Differs}
-use Rattle.playback.specs.declared.Field.{Field}
+use Rattle.playback.specs.declared.Difference.{Difference}
 use Rattle.playback.specs.declared.Playback.{Playback}
 use Rattle.playback.specs.declared.Playback.TheVariants as playback
 use Rattle.playback.specs.AheadLaws.{shifted, Ahead}
@@ -26,9 +24,9 @@ shift_over c o d p (r ∷ rs) b = go (shift_over c o (d + 1) (p + length (bytes_
   where
     go :
         verdict_over (c + (d + 1)) (o + (p + length (bytes_of r))) rs b ≡ shifted c o (verdict_over (d + 1) (p + length (bytes_of r)) rs b) →
-        (k : Comparison) → settled (c + d) (o + p) k (verdict_over (c + d + 1) (o + p + length (bytes_of r)) rs b) ≡ shifted c o (settled d p k (verdict_over (d + 1) (p + length (bytes_of r)) rs b))
-    go later Same = rw (add_assoc c d 1, add_assoc o p (length (bytes_of r))) later
-    go later (Differs f x y) = refl
+        (k : Option Difference) → settled (c + d) (o + p) k (verdict_over (c + d + 1) (o + p + length (bytes_of r)) rs b) ≡ shifted c o (settled d p k (verdict_over (d + 1) (p + length (bytes_of r)) rs b))
+    go later None = rw (add_assoc c d 1, add_assoc o p (length (bytes_of r))) later
+    go later (Some d) = refl
 
 pub played_shifted : (count offset : ℕ) (s : List ℕ) → played_from count offset s ≡ shifted count offset (played_back s)
 unfolding played_from
@@ -58,7 +56,7 @@ module _ (c o : ℕ) (s : List ℕ) where
     stays : (u : List ℕ) → reading_of (s ++ u) ≡ record { verdict = verdict.Bytes n; content = (reading_of s).content }
     stays u = record_stays s u e
 
-    again : (u : List ℕ) {k : Comparison} → compared_in (reading_of s).content ≡ k → compared_in (reading_of (s ++ u)).content ≡ k
+    again : (u : List ℕ) {k : Option Difference} → compared_in (reading_of s).content ≡ k → compared_in (reading_of (s ++ u)).content ≡ k
     again u q = ap (λ (r : Reading). compared_in r.content) (stays u) ∙ q
 
     bytes_again : (u : List ℕ) → (reading_of (s ++ u)).verdict ≡ verdict.Bytes n
@@ -70,10 +68,10 @@ module _ (c o : ℕ) (s : List ℕ) where
     within : n ≤ length s
     within = read_within s e
 
-    ahead_differs : {f : Field} {x y : ℕ} → compared_in (reading_of s).content ≡ Differs f x y → Ahead c o s (played_from c o s)
+    ahead_differs : {d : Difference} → compared_in (reading_of s).content ≡ Some d → Ahead c o s (played_from c o s)
     ahead_differs q = subst (Ahead c o s) (sym (played_differs c o s e q)) (omega arith, omega arith, λ u. played_differs c o (s ++ u) (bytes_again u) (again u q))
 
-    module _ (q : compared_in (reading_of s).content ≡ Same) where
+    module _ (q : compared_in (reading_of s).content ≡ None) where
       step : (u : List ℕ) → played_from c o (s ++ u) ≡ played_from (c + 1) (o + n) (drop n s ++ u)
       step u = played_on c o (s ++ u) (bytes_again u) (again u q) ∙ ap (played_from (c + 1) (o + n)) (drop-append-le n s u within)
 
@@ -84,9 +82,9 @@ module _ (c o : ℕ) (s : List ℕ) where
       back (playback.Agree m) (b, h) =
           let r = rest in let w = within in let p = some in
           (omega (arith, b, r, w, p), λ u. step u ∙ h u ∙ ap (λ (k : ℕ). played_from m k u) (let z : o + n + length (drop n s) ≡ o + length s = omega (arith, r, w) in z))
-      back (playback.Differs m at f x y) (b, d, h) =
+      back (playback.Differs m at d) (b, e, h) =
           let r = rest in let w = within in let p = some in
-          (omega (arith, b, r, w, p), omega (arith, d, r, w), λ u. step u ∙ h u)
+          (omega (arith, b, r, w, p), omega (arith, e, r, w), λ u. step u ∙ h u)
       back (playback.Refused k m at) (b, i, j, h, l) =
           let r = rest in let w = within in let p = some in
           let left : drop (at - (o + n)) (drop n s) ≡ drop (at - o) s = drop-drop (at - (o + n)) n s ∙ ap (λ (k : ℕ). drop k s) (let z : n + (at - (o + n)) ≡ at - o = omega (arith, i) in z) in (
@@ -101,4 +99,4 @@ module _ (c o : ℕ) (s : List ℕ) where
       ahead_on a = subst (Ahead c o s) (sym (played_on c o s e q)) (back (played_from (c + 1) (o + n) (drop n s)) a)
 
 pub ahead : (c o : ℕ) (s : List ℕ) → Ahead c o s (played_from c o s)
-ahead = by_records Ahead ahead_none (λ c o s n h e. ahead_refused c o s h e) (λ c o s n e f x y q. ahead_differs c o s e q) (λ c o s n e q a. ahead_on c o s e q a)
+ahead = by_records Ahead ahead_none (λ c o s n h e. ahead_refused c o s h e) (λ c o s n e d q. ahead_differs c o s e q) (λ c o s n e q a. ahead_on c o s e q a)

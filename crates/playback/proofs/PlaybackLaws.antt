@@ -1,7 +1,7 @@
 -- How a playback goes on over the bytes, record by record.
 use Prim.Native.Nat.{ℕ, zero, suc, ◌+◌, ◌-◌, ◌≤◌, ◌<◌}
 use Rattle.std.proofs.Common.{add-one, arith, ◌∙◌, drop-drop, drop-cons, eq-eqb, ne_eqb}
-use Rattle.std.specs.Prelude.{cond, ◌≡◌, eqb, drop, get_or, Float}
+use Rattle.std.specs.Prelude.{cond, ◌≡◌, eqb, drop, get_or, Float, Option, None, Some}
 use mathlib.Core.List.{List, [], ◌∷◌, ◌++◌}
 use Rattle.std.proofs.Math.Path.{refl, ap, sym}
 use Rattle.std.proofs.Math.ListN.{length, length-drop}
@@ -21,27 +21,13 @@ use Rattle.records.specs.declared.Reading.{Reading}
 use Rattle.records.specs.declared.Verdict.{Verdict}
 use Rattle.records.specs.declared.Verdict.TheVariants as verdict
 use Rattle.playback.specs.Playback.{in_order, field_at, field_number, fields_of, difference_in, first_difference, answer_now, compared_in, Series, none, led, onward, series_within, series_in, settled, verdict_over, played_from, played_back}
-use Rattle.playback.specs.declared.Field.{Field}
-use Rattle.playback.specs.declared.Field.TheVariants.{Mark}
-use Rattle.playback.specs.declared.Comparison.{Comparison}
-use Rattle.playback.specs.declared.Comparison.TheVariants.{Same, Differs}
+use Rattle.playback.specs.declared.Field.TheVariants.{Kind}
+use Rattle.playback.specs.declared.Difference.{Difference}
 use Rattle.playback.specs.declared.Playback.{Playback}
 use Rattle.playback.specs.declared.Playback.TheVariants as playback
 use Rattle.playback.specs.PlaybackLaws.{Comparing, Playing}
 
 -- ---- field by field
-
--- behind the first seven stands the mark
-pub last_field : (place : ℕ) → ¬ (place ≡ 0) → ¬ (place ≡ 1) → ¬ (place ≡ 2) → ¬ (place ≡ 3) → ¬ (place ≡ 4) → ¬ (place ≡ 5) → ¬ (place ≡ 6) → Mark ≡ field_at place
-last_field zero a b c d e f g = absurd (a refl)
-last_field (suc zero) a b c d e f g = absurd (b refl)
-last_field (suc (suc zero)) a b c d e f g = absurd (c refl)
-last_field (suc (suc (suc zero))) a b c d e f g = absurd (d refl)
-last_field (suc (suc (suc (suc zero)))) a b c d e f g = absurd (e refl)
-last_field (suc (suc (suc (suc (suc zero))))) a b c d e f g = absurd (f refl)
-last_field (suc (suc (suc (suc (suc (suc zero)))))) a b c d e f g = absurd (g refl)
-last_field (suc (suc (suc (suc (suc (suc (suc zero))))))) a b c d e f g = refl
-last_field (suc (suc (suc (suc (suc (suc (suc (suc n)))))))) a b c d e f g = refl
 
 -- a field's number is its place in record order, from 1 on
 pub numbered_in_order : (place : ℕ) → place < 8 → field_number (field_at place) ≡ place + 1
@@ -80,19 +66,19 @@ unfolding first_difference
 compare_starts recorded present = record { count = omega arith; is = refl }
 
 module _ (recorded present : List ℕ) (l : length recorded ≡ 8) (m : length present ≡ 8) {i : ℕ} (g : Comparing recorded present i) (h : i < 8) where
-  one_off : difference_in (drop i in_order) (drop i recorded) (drop i present) ≡ cond (eqb (get_or recorded i 0) (get_or present i 0)) (difference_in (drop (i + 1) in_order) (drop (i + 1) recorded) (drop (i + 1) present)) (Differs (field_at i) (get_or recorded i 0) (get_or present i 0))
-  one_off = rw (add-one i, drop-cons in_order i Mark h, drop-cons recorded i 0 (omega (arith, l, h)), drop-cons present i 0 (omega (arith, m, h))) refl
+  one_off : difference_in (drop i in_order) (drop i recorded) (drop i present) ≡ cond (eqb (get_or recorded i 0) (get_or present i 0)) (difference_in (drop (i + 1) in_order) (drop (i + 1) recorded) (drop (i + 1) present)) (Some (record { field = get_or in_order i Kind; recorded = get_or recorded i 0; present = get_or present i 0 }))
+  one_off = rw (add-one i, drop-cons in_order i Kind h, drop-cons recorded i 0 (omega (arith, l, h)), drop-cons present i 0 (omega (arith, m, h))) refl
 
   pub compare_on : get_or recorded i 0 ≡ get_or present i 0 → Comparing recorded present (i + 1)
   compare_on e = record { count = omega arith; is = sym (one_off ∙ rw (eq-eqb (get_or recorded i 0) (get_or present i 0) e) refl) ∙ g.is }
 
-  pub compare_differs : {f : Field} → ¬ (get_or recorded i 0 ≡ get_or present i 0) → f ≡ field_at i → Differs f (get_or recorded i 0) (get_or present i 0) ≡ first_difference recorded present
-  compare_differs e q = ap (λ (k : Field). Differs k (get_or recorded i 0) (get_or present i 0)) q ∙ sym (one_off ∙ rw (ne_eqb (get_or recorded i 0) (get_or present i 0) e) refl) ∙ g.is
+  pub compare_differs : ¬ (get_or recorded i 0 ≡ get_or present i 0) → Some (record { field = get_or in_order i Kind; recorded = get_or recorded i 0; present = get_or present i 0 }) ≡ first_difference recorded present
+  compare_differs e = sym (one_off ∙ rw (ne_eqb (get_or recorded i 0) (get_or present i 0) e) refl) ∙ g.is
 
-pub compare_ends : (recorded present : List ℕ) {i : ℕ} → Comparing recorded present i → 8 ≤ i → Same ≡ first_difference recorded present
+pub compare_ends : (recorded present : List ℕ) {i : ℕ} → Comparing recorded present i → 8 ≤ i → None ≡ first_difference recorded present
 compare_ends recorded present {i} g h = ap (λ (j : ℕ). difference_in (drop j in_order) (drop j recorded) (drop j present)) (let c = g.count in let z : 8 ≡ i = omega arith in z) ∙ g.is
 
-pub compared_is : (r : Record) {c : Comparison} {x y : List ℕ} {o : Outcome} → o ≡ answer_now r → x ≡ fields_of r.outcome → y ≡ fields_of o → c ≡ first_difference x y → c ≡ compared_in r
+pub compared_is : (r : Record) {c : Option Difference} {x y : List ℕ} {o : Outcome} → o ≡ answer_now r → x ≡ fields_of r.outcome → y ≡ fields_of o → c ≡ first_difference x y → c ≡ compared_in r
 unfolding compared_in
 compared_is r e f g h = rw (h, f, g, e) refl
 
@@ -166,11 +152,11 @@ module _ (count offset : ℕ) (bytes : List ℕ) where
         ap (λ (s : Series). verdict_over count offset s.records s.behind) (series_first bytes e)
         ∙ ap (λ (k : ℕ). settled count offset (compared_in (reading_of bytes).content) (verdict_over (count + 1) (offset + k) (series_in (drop n bytes)).records (series_in (drop n bytes)).behind)) (read_length bytes e)
 
-    pub played_differs : {f : Field} {x y : ℕ} → compared_in (reading_of bytes).content ≡ Differs f x y → played_from count offset bytes ≡ playback.Differs count offset f x y
-    played_differs q = one_played ∙ ap (λ (c : Comparison). settled count offset c (played_from (count + 1) (offset + n) (drop n bytes))) q
+    pub played_differs : {d : Difference} → compared_in (reading_of bytes).content ≡ Some d → played_from count offset bytes ≡ playback.Differs count offset d
+    played_differs q = one_played ∙ ap (λ (c : Option Difference). settled count offset c (played_from (count + 1) (offset + n) (drop n bytes))) q
 
-    pub played_on : compared_in (reading_of bytes).content ≡ Same → played_from count offset bytes ≡ played_from (count + 1) (offset + n) (drop n bytes)
-    played_on q = one_played ∙ ap (λ (c : Comparison). settled count offset c (played_from (count + 1) (offset + n) (drop n bytes))) q
+    pub played_on : compared_in (reading_of bytes).content ≡ None → played_from count offset bytes ≡ played_from (count + 1) (offset + n) (drop n bytes)
+    played_on q = one_played ∙ ap (λ (c : Option Difference). settled count offset c (played_from (count + 1) (offset + n) (drop n bytes))) q
 
 -- ---- what holds of every verdict
 
@@ -178,8 +164,8 @@ module _ (count offset : ℕ) (bytes : List ℕ) where
 module _ (P : ℕ → ℕ → List ℕ → Playback → Type 0)
     (none_left : (c k : ℕ) (s : List ℕ) → length s ≤ 0 → P c k s (played_from c k s))
     (is_refused : (c k : ℕ) (s : List ℕ) (n : ℕ) → 0 < length s → (reading_of s).verdict ≡ verdict.Refused n → P c k s (played_from c k s))
-    (one-differs : (c k : ℕ) (s : List ℕ) (n : ℕ) → (reading_of s).verdict ≡ verdict.Bytes n → (f : Field) (x y : ℕ) → compared_in (reading_of s).content ≡ Differs f x y → P c k s (played_from c k s))
-    (one-agrees : (c k : ℕ) (s : List ℕ) (n : ℕ) → (reading_of s).verdict ≡ verdict.Bytes n → compared_in (reading_of s).content ≡ Same → P (c + 1) (k + n) (drop n s) (played_from (c + 1) (k + n) (drop n s)) → P c k s (played_from c k s)) where
+    (one-differs : (c k : ℕ) (s : List ℕ) (n : ℕ) → (reading_of s).verdict ≡ verdict.Bytes n → (d : Difference) → compared_in (reading_of s).content ≡ Some d → P c k s (played_from c k s))
+    (one-agrees : (c k : ℕ) (s : List ℕ) (n : ℕ) → (reading_of s).verdict ≡ verdict.Bytes n → compared_in (reading_of s).content ≡ None → P (c + 1) (k + n) (drop n s) (played_from (c + 1) (k + n) (drop n s)) → P c k s (played_from c k s)) where
   by_first : (c k : ℕ) (s : List ℕ) → 0 < length s → ((n : ℕ) → 0 < n → P (c + 1) (k + n) (drop n s) (played_from (c + 1) (k + n) (drop n s))) → P c k s (played_from c k s)
   by_first c k s h later = go (reading_of s).verdict refl
     where
@@ -187,9 +173,9 @@ module _ (P : ℕ → ℕ → List ℕ → Playback → Type 0)
       go (verdict.Refused n) e = is_refused c k s n h e
       go (verdict.Bytes n) e = by (compared_in (reading_of s).content) refl
         where
-          by : (x : Comparison) → compared_in (reading_of s).content ≡ x → P c k s (played_from c k s)
-          by Same q = one-agrees c k s n e q (later n (bytes_hold s e).1.some)
-          by (Differs f x y) q = one-differs c k s n e f x y q
+          by : (x : Option Difference) → compared_in (reading_of s).content ≡ x → P c k s (played_from c k s)
+          by None q = one-agrees c k s n e q (later n (bytes_hold s e).1.some)
+          by (Some d) q = one-differs c k s n e d q
 
   by_records_within : (m c k : ℕ) (s : List ℕ) → length s ≤ m → P c k s (played_from c k s)
   by_records_within zero c k s h = none_left c k s h
@@ -231,14 +217,14 @@ module _ {bytes : List ℕ} {records at : ℕ} (g : Playing bytes records at) (h
     pub play_less : length bytes - (at + n) < length bytes - at
     play_less = let z = some in let w = play_within in omega arith
 
-    module _ {c : Comparison} (k : c ≡ compared_in b.content) where
+    module _ {c : Option Difference} (k : c ≡ compared_in b.content) where
       as_read : c ≡ compared_in (reading_of (drop at bytes)).content
       as_read = k ∙ ap (λ (r : Reading). compared_in r.content) here
 
-      pub play_differs : {f : Field} {x y : ℕ} → c ≡ Differs f x y → playback.Differs records at f x y ≡ played_back bytes
+      pub play_differs : {d : Difference} → c ≡ Some d → playback.Differs records at d ≡ played_back bytes
       play_differs p = sym (played_differs records at (drop at bytes) right (sym as_read ∙ p)) ∙ g.is
 
-      pub play_on : c ≡ Same → Playing bytes (records + 1) (at + n)
+      pub play_on : c ≡ None → Playing bytes (records + 1) (at + n)
       play_on p =
           record {
             within = play_within;

@@ -1,5 +1,5 @@
 -- Records played back: which records stand in bytes, what each one's call gives now, and the verdict. Definitions only.
-use Rattle.std.specs.Prelude.{ℕ, zero, suc, ◌+◌, cond, List, [], ◌∷◌, ◌++◌, eqb, length, take, drop, get_or}
+use Rattle.std.specs.Prelude.{ℕ, zero, suc, ◌+◌, cond, List, [], ◌∷◌, ◌++◌, Option, None, Some, eqb, length, take, drop, get_or}
 use Rattle.numerical.specs.Answers.{kind_of, numbers_of, padded, counts_of}
 use Rattle.numerical.specs.declared.Outcome.{Outcome}
 use Rattle.roots.specs.Calls.{answer}
@@ -9,8 +9,7 @@ use Rattle.records.specs.declared.Verdict.{Verdict}
 use Rattle.records.specs.declared.Verdict.TheVariants as verdict
 use Rattle.playback.specs.declared.Field.{Field}
 use Rattle.playback.specs.declared.Field.TheVariants.{Kind, First, Second, Third, Steps, Values, Derivatives, Mark}
-use Rattle.playback.specs.declared.Comparison.{Comparison}
-use Rattle.playback.specs.declared.Comparison.TheVariants.{Same, Differs}
+use Rattle.playback.specs.declared.Difference.{Difference}
 use Rattle.playback.specs.declared.Playback.{Playback}
 use Rattle.playback.specs.declared.Playback.TheVariants as playback
 
@@ -40,13 +39,13 @@ fields_of o = kind_of o.answer ∷ (bits_of (padded (numbers_of o.answer)) ++ co
 -- ---- one record
 
 -- "the first field that differs"; "Fields compare as bits, in record order"
-abbrev pub difference_in : List Field → List ℕ → List ℕ → Comparison
-difference_in [] recorded present = Same
-difference_in (f ∷ fields) [] present = Same
-difference_in (f ∷ fields) (m ∷ recorded) [] = Same
-difference_in (f ∷ fields) (m ∷ recorded) (n ∷ present) = cond (eqb m n) (difference_in fields recorded present) (Differs f m n)
+abbrev pub difference_in : List Field → List ℕ → List ℕ → Option Difference
+difference_in [] recorded present = None
+difference_in (f ∷ fields) [] present = None
+difference_in (f ∷ fields) (m ∷ recorded) [] = None
+difference_in (f ∷ fields) (m ∷ recorded) (n ∷ present) = cond (eqb m n) (difference_in fields recorded present) (Some (record { field = f; recorded = m; present = n }))
 
-unfoldable pub first_difference : List ℕ → List ℕ → Comparison
+unfoldable pub first_difference : List ℕ → List ℕ → Option Difference
 first_difference recorded present = difference_in in_order recorded present
 
 -- "run each again": its call, as it stands
@@ -54,7 +53,7 @@ abbrev pub answer_now : Record → Outcome
 answer_now r = answer (take r.count r.coefficients) r.method r.tolerances r.limit
 
 -- "and compare"
-unfoldable pub compared_in : Record → Comparison
+unfoldable pub compared_in : Record → Option Difference
 compared_in r = first_difference (fields_of r.outcome) (fields_of (answer_now r))
 
 -- ---- the records in bytes
@@ -86,9 +85,9 @@ series_in bytes = series_within (length bytes) bytes
 
 -- ---- the verdict
 
-abbrev pub settled : ℕ → ℕ → Comparison → Playback → Playback
-settled count offset Same later = later
-settled count offset (Differs field recorded present) later = playback.Differs count offset field recorded present
+abbrev pub settled : ℕ → ℕ → Option Difference → Playback → Playback
+settled count offset None later = later
+settled count offset (Some difference) later = playback.Differs count offset difference
 
 -- behind `count` records that agree, of `offset` bytes: "the number of records that agree before the first that doesn't, with that one's byte offset
 -- and the first field that differs, or all agree"; "11 with the offset, if a bad record comes first"
