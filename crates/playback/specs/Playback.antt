@@ -1,12 +1,13 @@
 -- Records played back: which records stand in bytes, what each one's call gives now, and the verdict. Definitions only.
-use Rattle.std.specs.Prelude.{ℕ, zero, suc, ◌+◌, cond, List, [], ◌∷◌, ◌++◌, Option, None, Some, eqb, length, take, drop, get_or}
+use Rattle.std.specs.Prelude.{ℕ, zero, suc, ◌+◌, cond, List, [], ◌∷◌, ◌++◌, Option, None, Some, Result, Ok, Err, eqb, length, take, drop, get_or}
 use Rattle.numerical.specs.Answers.{kind_of, numbers_of, padded, counts_of}
 use Rattle.numerical.specs.declared.Outcome.{Outcome}
 use Rattle.roots.specs.Calls.{answer}
 use Rattle.records.specs.Records.{bits_of, bytes_of, reading_of}
 use Rattle.records.specs.declared.Record.{Record}
-use Rattle.records.specs.declared.Verdict.{Verdict}
-use Rattle.records.specs.declared.Verdict.TheVariants as verdict
+use Rattle.records.specs.declared.Reading.{Reading}
+use Rattle.records.specs.declared.Refusal.{Refusal}
+use Rattle.records.specs.declared.Refusal.TheVariants.{NoRecord}
 use Rattle.playback.specs.declared.Field.{Field}
 use Rattle.playback.specs.declared.Field.TheVariants.{Kind, First, Second, Third, Steps, Values, Derivatives, Mark}
 use Rattle.playback.specs.declared.Difference.{Difference}
@@ -70,14 +71,14 @@ abbrev pub led : Record → Series → Series
 led r more = record { records = r ∷ more.records; behind = more.behind }
 
 -- the next record begins where this one ends
-abbrev pub onward : List ℕ → Verdict → (ℕ → Series) → Series
-onward bytes (verdict.Bytes n) next = next n
-onward bytes (verdict.Refused refusal) next = none bytes
+abbrev pub onward : List ℕ → Result Reading Refusal → (Reading → Series) → Series
+onward bytes (Ok reading) next = next reading
+onward bytes (Err refusal) next = none bytes
 
 -- at most k records
 unfoldable pub series_within : ℕ → List ℕ → Series
 series_within zero bytes = none bytes
-series_within (suc k) bytes = onward bytes (reading_of bytes).verdict (λ n. led (reading_of bytes).content (series_within k (drop n bytes)))
+series_within (suc k) bytes = onward bytes (reading_of bytes) (λ reading. led reading.content (series_within k (drop reading.length bytes)))
 
 -- a record has a byte at least, so there are no more records than bytes
 unfoldable pub series_in : List ℕ → Series
@@ -93,7 +94,7 @@ settled count offset (Some difference) later = playback.Differs count offset dif
 -- and the first field that differs, or all agree"; "11 with the offset, if a bad record comes first"
 abbrev pub verdict_over : ℕ → ℕ → List Record → List ℕ → Playback
 verdict_over count offset [] [] = playback.Agree count
-verdict_over count offset [] (b ∷ behind) = playback.Refused 11 count offset
+verdict_over count offset [] (b ∷ behind) = playback.Refused NoRecord count offset
 verdict_over count offset (r ∷ more) behind = settled count offset (compared_in r) (verdict_over (count + 1) (offset + length (bytes_of r)) more behind)
 
 unfoldable pub played_from : ℕ → ℕ → List ℕ → Playback

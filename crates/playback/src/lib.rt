@@ -9,7 +9,7 @@ ghost use Rattle.simple_convergency.specs.Stop.{most_coefficients};
 ghost use Rattle.playback.specs.Playback.{answer_now, field_number, fields_of, first_difference, compared_in, played_back};
 
 use numerical::{Answer, Outcome};
-use records::{Record, Verdict};
+use records::{Record, Refusal};
 
 // The fields of an answer, in record order: its kind, its numbers, the tallies and the mark.
 #[derive(Clone, Copy)]
@@ -64,7 +64,7 @@ pub enum Playback {
         difference: Difference,
     },
     Refused {
-        refusal: u8,
+        refusal: Refusal,
         records: usize,
         offset: usize,
     },
@@ -131,6 +131,7 @@ fn answer_now(content: Record) -> Outcome
 }
 
 // The first field in which the record's answer and the present one differ.
+#[tactic(auto, unfolding(crate::specs::Playback::compared_in))]
 fn compared(content: Record) -> Option<Difference>
     requires { content.count ≤ most_coefficients }
     ensures { result ≡ compared_in content }
@@ -145,13 +146,15 @@ pub fn play_back(bytes: &[u8]) -> Playback
     let mut records = 0;
     let mut at = 0;
     while at < bytes.len() {
-        let reading = records::read(&bytes[at..]);
-        let Verdict::Bytes(n) = reading.verdict else {
-            return Playback::Refused {
-                refusal: 11,
-                records,
-                offset: at,
-            };
+        let reading = match records::read(&bytes[at..]) {
+            Ok(reading) => reading,
+            Err(refusal) => {
+                return Playback::Refused {
+                    refusal,
+                    records,
+                    offset: at,
+                };
+            }
         };
         if let Some(difference) = compared(reading.content) {
             return Playback::Differs {
@@ -161,7 +164,7 @@ pub fn play_back(bytes: &[u8]) -> Playback
             };
         }
         records += 1;
-        at += n;
+        at += reading.length;
     }
     Playback::Agree { records }
 }

@@ -5,8 +5,8 @@ use Rattle.playback.proofs.play_back.Goals as goal
 pub loop-at-init : goal.loop-at-init
 loop-at-init c = search play_starts
 
-pub returns-in_default : goal.returns-in_default
-returns-in_default c = search play_refused
+pub returns-in-Err : goal.returns-in-Err
+returns-in-Err c = search play_refused
 
 pub compared-requires : goal.compared-requires
 compared-requires c = search play_few
