@@ -206,13 +206,13 @@ module _ (kind m : ℕ) (s : List ℕ) (at : ℕ) {k : ℕ} (e : k ≡ start_cou
           }
 
 -- at most two starts
-pub few_starts : (m : ℕ) {k : ℕ} → k ≡ start_count m → k ≤ 2
+pub few_starts : (m : ℕ) → start_count m ≤ 2
 unfolding start_count
-few_starts m {k} e = go (eqb m 4) e
+few_starts m = go (eqb m 4)
   where
-    go : (b : Bool) → k ≡ cond b 1 2 → k ≤ 2
-    go true f = omega arith
-    go false f = omega arith
+    go : (b : Bool) → cond b 1 2 ≤ 2
+    go true = omega arith
+    go false = omega arith
 
 -- ---- a call
 

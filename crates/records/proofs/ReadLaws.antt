@@ -1,6 +1,6 @@
 -- Numbers with a test, and doubles one after the other, as the reader takes them.
 use Prim.Native.Nat.{ℕ, suc, ◌+◌, ◌-◌, ◌≤◌, ◌<◌}
-use Rattle.std.proofs.Common.{add-one, append_assoc, append-nil, ap, ◌∙◌, subst, length-set, take-suc-set, take_all, Fits}
+use Rattle.std.proofs.Common.{true≢false, sym, add-one, append_assoc, append-nil, ap, ◌∙◌, subst, length-set, take-suc-set, take_all, Fits}
 use native.Mathlib.Omega.{arith}
 use Rattle.std.specs.Int.{w8}
 use Rattle.std.specs.Prelude.{Bool, true, false, cond, ltb, List, [], ◌∷◌, ◌++◌, ◌≡◌, refl, length, take, drop, set, Float}
@@ -9,6 +9,7 @@ use Rattle.std.specs.Float.Ieee.{of_bits}
 use borrow.Author.Tests.{ltb-false}
 use Rattle.rows.specs.Groups.{Found, found, none, number_of, TookOne}
 use Rattle.rows.specs.Layouts.{Layout, number, only, TookNumber, NoNumber, Goes}
+use Rattle.rows.proofs.GroupLaws.{none_found}
 use Rattle.rows.proofs.LayoutLaws.{goes_here, goes_on, goes_wrong, number_wrong, number_goes}
 use Rattle.records.specs.Records.{between, is_double, is_tally, record_layout, doubles}
 use Rattle.records.specs.Parts.{Part, double_part, HeldPart, NoPart}
@@ -16,9 +17,6 @@ use Rattle.records.specs.declared.Record.{Record}
 use Rattle.records.specs.ReadLaws.{Filling}
 
 -- ---- what a test lets pass
-
-none_found : {A : Type 0} {n : ℕ} {t : List ℕ} → none ≡ found n t → A
-none_found h = absurd (let z : ◌≡◌ {A = ℕ} 0 1 = cc in omega arith)
 
 passed : (ok : ℕ → Bool) (f : Found) {n : ℕ} {t : List ℕ} → only ok f ≡ found n t → ok n ≡ true
 passed ok none h = none_found h
@@ -31,21 +29,29 @@ passed ok (found m u) {n} {t} h = go (ok m) refl h
 pub is_right : {ok : ℕ → Bool} {s : List ℕ} {at n p : ℕ} → TookNumber ok s at n p → ok n ≡ true
 is_right {ok} {s} {at} g = passed ok (number_of (drop at s)) g.is
 
-module _ (least most : ℕ) {s : List ℕ} {at n p : ℕ} (g : TookNumber (between least most) s at n p) where
-  at_most : n ≤ most
-  unfolding between
-  at_most = go (ltb n least) (ltb most n) refl (is_right g)
-    where
-      go : (b c : Bool) → ltb most n ≡ c → cond b false (cond c false true) ≡ true → n ≤ most
-      go true c e h = absurd (let z : ◌≡◌ {A = ℕ} 0 1 = cc in omega arith)
-      go false true e h = absurd (let z : ◌≡◌ {A = ℕ} 0 1 = cc in omega arith)
-      go false false e h = ltb-false most n e
+pub most : (least bound n : ℕ) → between least bound n ≡ true → n ≤ bound
+unfolding between
+most least bound n h = go (ltb n least) (ltb bound n) refl h
+  where
+    go : (b c : Bool) → ltb bound n ≡ c → cond b false (cond c false true) ≡ true → n ≤ bound
+    go true c e q = absurd (true≢false (sym q))
+    go false true e q = absurd (true≢false (sym q))
+    go false false e q = ltb-false bound n e
 
-  pub room_for : {j : ℕ} → most ≤ j → n ≤ j
-  room_for h = let l = at_most in omega arith
+pub least : (bound most n : ℕ) → between bound most n ≡ true → bound ≤ n
+unfolding between
+least bound most n h = go (ltb n bound) refl (ltb most n) h
+  where
+    go : (b : Bool) → ltb n bound ≡ b → (c : Bool) → cond b false (cond c false true) ≡ true → bound ≤ n
+    go true e c q = absurd (true≢false (sym q))
+    go false e c q = ltb-false n bound e
 
-  pub byte_fits : most < 256 → Fits w8 n
-  byte_fits h = let l = at_most in record { fits = omega arith }
+module _ (low high : ℕ) {s : List ℕ} {at n p : ℕ} (g : TookNumber (between low high) s at n p) where
+  pub room_for : {j : ℕ} → high ≤ j → n ≤ j
+  room_for h = let l = most low high n (is_right g) in omega arith
+
+  pub byte_fits : high < 256 → Fits w8 n
+  byte_fits h = let l = most low high n (is_right g) in record { fits = omega arith }
 
 -- ---- a number as a part
 

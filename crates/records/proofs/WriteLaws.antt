@@ -1,5 +1,5 @@
 -- The parts of a record put one after the other, and a record written or refused.
-use Rattle.std.specs.Prelude.{ℕ, ◌+◌, ◌-◌, ◌*◌, ◌≤◌, ◌<◌, Bool, true, ◌⊎◌, eqb, ltb, min, Result, Ok, Err, length, take, drop, get_or, Float}
+use Rattle.std.specs.Prelude.{ℕ, ◌+◌, ◌-◌, ◌≤◌, ◌<◌, Bool, true, ◌⊎◌, eqb, ltb, min, Result, Ok, Err, length, take, drop, get_or, Float}
 use Rattle.std.proofs.Common.{add-one, arith, true≢false, inl, inr, sym, ◌∙◌, length-append, take_all}
 use Rattle.std.proofs.Math.Bool.{false}
 use mathlib.Core.List.{List, [], ◌∷◌, ◌++◌, append_assoc}
@@ -19,9 +19,11 @@ use Rattle.roots.specs.declared.Method.{Method}
 use Rattle.rows.specs.Layouts.{spell, fits, Read, held, wrong, read}
 use Rattle.rows.proofs.LayoutLaws.{row_only, right_if, wrong_if_none, wrong_if_short}
 use Rattle.rows.specs.Puts.{PutRow}
-use Rattle.rows.proofs.PutLaws.{put_front, row_nothing, row_both, row_length}
+use Rattle.rows.proofs.PutLaws.{put_front, row_nothing, row_both}
 use Rattle.records.specs.Records.{bits_of, head_row, tolerances_row, rule_row, call_row, answer_row, progress_row, row_of, record_layout, holds_both, numbers_for, recordable, bytes_of, written_to, left_by, told, reading_of}
 use Rattle.records.specs.Parts.{is_all, whole_of}
+use Rattle.records.specs.Drafts.{Puts, Drawn}
+use Rattle.records.specs.declared.Draft.{Draft}
 use Rattle.records.specs.declared.Record.{Record}
 use Rattle.records.specs.declared.Reading.{Reading}
 use Rattle.records.specs.declared.Refusal.{Refusal}
@@ -35,28 +37,19 @@ unfolding bits_of
 bits_append [] b = refl
 bits_append (x ∷ a) b = ap (λ (l : List ℕ). to_bits binary64 x ∷ l) (bits_append a b)
 
-pub doubles_start : (b : List ℕ) (at : ℕ) (a : List Float) → at + 10 * length a ≤ length b → PuttingDoubles b at a b at 0
+pub doubles_start : (d : Draft) (a : List Float) → d.length ≤ length d.bytes → PuttingDoubles d a d 0
 unfolding bits_of
-doubles_start b at a h = record { room = h; long = refl; near = omega arith; is = row_nothing b at (omega arith) }
+doubles_start d a h = record { near = omega arith; is = row_nothing d.bytes d.length h }
 
-module _ {b : List ℕ} {at : ℕ} {a : List Float} {now : List ℕ} {p i : ℕ} (g : PuttingDoubles b at a now p i) where
-  pub doubles_on : {n : ℕ} {after : List ℕ} {q : ℕ} → i < length a → n ≡ to_bits binary64 (get_or a i nan) → PutRow now p (n ∷ []) after q → q ≤ p + 10 → PuttingDoubles b at a after q (i + 1)
+module _ {before now : Draft} {a : List Float} {i : ℕ} (g : PuttingDoubles before a now i) where
+  pub doubles_on : {n : ℕ} {after : Draft} → i < length a → n ≡ to_bits binary64 (get_or a i nan) → Puts (n ∷ []) now after → after.length ≤ now.length + 10 → PuttingDoubles before a after (i + 1)
   unfolding bits_of
-  doubles_on {n} {after} {q} h e x s =
-      let z = g.near in
-      let y = g.long in
-      let l = row_length x in
-      record {
-        room = g.room;
-        long = omega arith;
-        near = omega arith;
-        is = rw bits (row_both g.is x);
-      }
+  doubles_on {n} {after} h e x s = record { near = let z = g.near in omega arith; is = rw bits (row_both g.is x) }
     where
       bits : bits_of (take (i + 1) a) ≡ bits_of (take i a) ++ (n ∷ [])
       bits = rw (add-one i, take-suc a i nan h, bits_append, e)
 
-  pub doubles_done : length a ≤ i → PutRow b at (bits_of a) now p
+  pub doubles_done : length a ≤ i → Puts (bits_of a) before now
   doubles_done h = rw (take_all i a h) at g.is
 
 -- where there are more than 16, the first 16 are all
@@ -124,9 +117,10 @@ module _ (a : List ℕ) (at : ℕ) {b : List ℕ} {p : ℕ} where
       unfolding progress_row
       progress_put g f x y z w = rw f at (row_both x (row_both y (row_both z w)))
 
-      pub record_put : (k : Record) → PutRow a at (call_row k) b p → PutRow b p (answer_row k.outcome.answer) c q → PutRow c q (progress_row k.outcome.progress) d r → PutRow a at (row_of k) d r
-      unfolding row_of
-      record_put k x y z = row_both x (row_both y z)
+pub record_drawn :
+    (k : Record) {empty called answered drawn : Draft} → empty.length ≡ 0 → Puts (call_row k) empty called → Puts (answer_row k.outcome.answer) called answered → Puts (progress_row k.outcome.progress) answered drawn → Drawn (row_of k) drawn
+unfolding row_of
+record_drawn k {empty} e x y z = record { before = empty.bytes; is = rw e at (row_both x (row_both y z)) }
 
 -- ---- a record written, or refused
 
@@ -135,18 +129,19 @@ pub same_bits : (kind : ℕ) (t : Tolerances) {i j : ℕ} → kind ≡ 1 → i �
 unfolding holds_both
 same_bits kind t e f g = rw (eq-eqb kind 1 e, ← f, ← g)
 
-module _ {row aside line : List ℕ} {n : ℕ} (x : PutRow aside 0 row line n) where
-  spelled : take n line ≡ spell row
-  spelled = put_front x.put
+module _ {row : List ℕ} {draft : Draft} (x : Drawn row draft) where
+  -- the bytes that were put
+  abbrev drawn : List ℕ
+  drawn = take draft.length draft.bytes
 
-  as_long : n ≡ length (spell row)
-  as_long = x.put.ends ∙ (let z : 0 + length (spell row) ≡ length (spell row) = omega arith in z)
+  spelled : drawn ≡ spell row
+  spelled = put_front x.is.put
 
-  length_is : length (take n line) ≡ n
-  length_is = ap length spelled ∙ sym as_long
+  as_long : draft.length ≡ length (spell row)
+  as_long = x.is.put.ends ∙ (let z : 0 + length (spell row) ≡ length (spell row) = omega arith in z)
 
-  pub count_is : n ≡ length (take n line)
-  count_is = sym length_is
+  pub count_is : draft.length ≡ length drawn
+  count_is = as_long ∙ sym (ap length spelled)
 
 -- what a reading says of the bytes
 module _ (s : List ℕ) where
@@ -208,7 +203,7 @@ module _ (o : Record) (before : List ℕ) where
   pub no_room_for_both : {b : Bool} → b ≡ holds_both o.kind o.tolerances → b ≡ false → (Err NoRecord ≡ written_to o (length before)) × (before ≡ left_by o before (written_to o (length before)))
   no_room_for_both y e = both refl (eleven (rw (sym y ∙ e))) refl
 
-module _ (before : List ℕ) (o : Record) {h : Bool} (k : h ≡ holds_both o.kind o.tolerances) (j : h ≡ true) {aside line : List ℕ} {n : ℕ} (x : PutRow aside 0 (row_of o) line n) {b : Bool} (y : b ≡ whole_of (take n line)) where
+module _ (before : List ℕ) (o : Record) {h : Bool} (k : h ≡ holds_both o.kind o.tolerances) (j : h ≡ true) {draft : Draft} (x : Drawn (row_of o) draft) {b : Bool} (y : b ≡ whole_of (take draft.length draft.bytes)) where
   on_row : b ≡ is_all (read record_layout (spell (row_of o)))
   unfolding whole_of
   on_row = y ∙ ap (λ (s : List ℕ). is_all (read record_layout s)) (spelled x)
@@ -226,12 +221,14 @@ module _ (before : List ℕ) (o : Record) {h : Bool} (k : h ≡ holds_both o.kin
 
   module _ (e : b ≡ true) where
     right : recordable o ≡ true
-    right = let f = all_held (read record_layout (spell (row_of o))) (sym on_row ∙ e) in by_row ∙ right_if record_layout (row_of o) f.0 x.small f.1
+    right = let f = all_held (read record_layout (spell (row_of o))) (sym on_row ∙ e) in by_row ∙ right_if record_layout (row_of o) f.0 x.is.small f.1
 
-    pub no_room : length before < n → (Err NoRoom ≡ written_to o (length before)) × (before ≡ left_by o before (written_to o (length before)))
+    pub no_room : length before < draft.length → (Err NoRoom ≡ written_to o (length before)) × (before ≡ left_by o before (written_to o (length before)))
     no_room h = both o before refl (ten o before right (rw (← (as_long x)) h)) refl
 
-    pub written : {t : List ℕ} → n ≤ length before → t ≡ take n line → (Ok n ≡ written_to o (length before)) × (t ++ drop n before ≡ left_by o before (written_to o (length before)))
+    pub written :
+        {t : List ℕ} → draft.length ≤ length before → t ≡ take draft.length draft.bytes →
+        (Ok draft.length ≡ written_to o (length before)) × (t ++ drop draft.length before ≡ left_by o before (written_to o (length before)))
     written h q =
         both o before (ap (λ (k : ℕ). Ok k) (as_long x)) (enough o before right (rw (← (as_long x)) h))
-        (ap (λ (l : List ℕ). l ++ drop n before) (q ∙ spelled x) ∙ ap (λ (k : ℕ). bytes_of o ++ drop k before) (as_long x))
+        (ap (λ (l : List ℕ). l ++ drop draft.length before) (q ∙ spelled x) ∙ ap (λ (k : ℕ). bytes_of o ++ drop k before) (as_long x))

@@ -3,11 +3,11 @@
 #![tactic(auto)]
 
 ghost use Rattle.std.specs.Prelude.{ℕ, Bool, true, ◌*◌, ◌+◌, ◌≤◌, drop, length, take, [], ◌++◌, ◌∷◌, ◌≡◌};
+ghost use Rattle.records.specs.Drafts.{Puts, Drawn};
 ghost use Rattle.records.specs.Parts.{Decides, Filled, TookIf, TookPart, TookRecord, answer_layout, call_part, double_part, head_part, progress_layout, rule_part, whole_of};
 ghost use Rattle.records.specs.Records.{answer_of, answer_row, between, bits_of, call_row, head_row, holds_both, is_double, is_kind, is_tolerance, left_by, numbers_for, progress_row, reading_of, refusal_number, row_of, rule_row, tolerances_for, tolerances_row, written_to};
 ghost use Rattle.roots.specs.Calls.{starts_of};
 ghost use Rattle.roots.specs.Methods.{method_number};
-ghost use Rattle.rows.specs.Puts.{PutRow};
 
 use numerical::{Answer, Derivatives, Outcome, Progress, Steps, Tally, Values};
 use roots::Method;
@@ -63,6 +63,8 @@ pub struct Reading {
 }
 
 // ---- reading: each part tells what it holds and where the next one begins
+// The bytes and an index are passed on, and no reader that moves: so a part is a function of them, and its contract speaks of
+// no state before and after.
 
 // The kind, and the number of the method.
 #[derive(Clone, Copy)]
@@ -348,136 +350,148 @@ pub fn read(s: &[u8]) -> Result<Reading, Refusal>
 
 // ---- writing: each part is put behind the one before
 
-// Puts a number behind what stands up to `at`, and answers where it ends.
-fn put_number(n: u64, out: &mut [u8], at: usize) -> usize
-    requires { at + 10 ≤ length out.old }
-    ensures put_row { PutRow out.old at (n ∷ []) out.new result }
-    ensures upper_bound { result ≤ at + 10 }
-{
-    rows::put(n, out, at)
+// The bytes of a record while they are made, of which the first `length` are put: an array with its length, in fixed memory
+// with no heap, with room for 33 numbers of ten bytes.
+#[derive(Drop)]
+struct Draft {
+    bytes: [u8; 330],
+    length: usize,
 }
 
-// Doubles, finite or not.
-fn put_doubles(a: &[f64], out: &mut [u8], at: usize) -> usize
-    requires { at + 10 * length a.now ≤ length out.old }
-    ensures put_row { PutRow out.old at (bits_of a.now) out.new result }
-    ensures upper_bound { result ≤ at + 10 * length a.now }
-{
-    let mut p = at;
-    for x in a {
-        p = put_number(doubles::pattern(*x), out, p);
+impl Draft {
+    // All that is put goes through here.
+    fn put_number(&mut self, n: u64)
+        requires { self.old.length + 10 ≤ 330 }
+        ensures put_row { Puts (n ∷ []) self.old self.new }
+        ensures upper_bound { self.new.length ≤ self.old.length + 10 }
+    {
+        let end = rows::put(n, &mut self.bytes, self.length);
+        self.length = end;
     }
-    p
-}
 
-// The starts of a method: Newton has one.
-fn put_starts(method: Method, out: &mut [u8], at: usize) -> usize
-    requires { at + 20 ≤ length out.old }
-    ensures put_row { PutRow out.old at (bits_of (starts_of method)) out.new result }
-    ensures upper_bound { result ≤ at + 20 }
-{
-    match method {
-        Method::Brent { from, to }
-        | Method::RegulaFalsi { from, to }
-        | Method::Polynom { from, to } => put_doubles(&[from, to], out, at),
-        Method::Secant { first, second } => put_doubles(&[first, second], out, at),
-        Method::NewtonRaphson { start } => put_doubles(&[start], out, at),
+    // Doubles, finite or not.
+    fn put_doubles(&mut self, a: &[f64])
+        requires { self.old.length + 10 * length a.now ≤ 330 }
+        ensures put_row { Puts (bits_of a.now) self.old self.new }
+        ensures upper_bound { self.new.length ≤ self.old.length + 10 * length a.now }
+    {
+        for x in a {
+            self.put_number(doubles::pattern(*x));
+        }
     }
-}
 
-// Where the count is above 16 there are 16, and the reader refuses the count.
-fn put_coefficients(a: [f64; 16], count: usize, out: &mut [u8], at: usize) -> usize
-    requires { at + 160 ≤ length out.old }
-    ensures put_row { PutRow out.old at (bits_of (take count a)) out.new result }
-    ensures upper_bound { result ≤ at + 160 }
-{
-    put_doubles(&a[..count.min(16)], out, at)
-}
-
-// The kind, and the method's number. Kind 1 begins with the method, another with 0 and the kind.
-fn put_head(kind: u64, method: Method, out: &mut [u8]) -> usize
-    requires { 30 ≤ length out.old }
-    ensures put_row { PutRow out.old 0 (head_row kind ++ (method_number method ∷ [])) out.new result }
-    ensures upper_bound { result ≤ 30 }
-{
-    let number = u64::from(method.number());
-    if kind == 1 {
-        return put_number(number, out, 0);
+    // The starts of a method: Newton has one.
+    fn put_starts(&mut self, method: Method)
+        requires { self.old.length + 20 ≤ 330 }
+        ensures put_row { Puts (bits_of (starts_of method)) self.old self.new }
+        ensures upper_bound { self.new.length ≤ self.old.length + 20 }
+    {
+        match method {
+            Method::Brent { from, to }
+            | Method::RegulaFalsi { from, to }
+            | Method::Polynom { from, to } => self.put_doubles(&[from, to]),
+            Method::Secant { first, second } => self.put_doubles(&[first, second]),
+            Method::NewtonRaphson { start } => self.put_doubles(&[start]),
+        }
     }
-    let p = put_number(0, out, 0);
-    let q = put_number(kind, out, p);
-    put_number(number, out, q)
-}
 
-// Kind 1 has one tolerance; another has that of values and then that of points.
-fn put_tolerances(kind: u64, tolerances: Tolerances, out: &mut [u8], at: usize) -> usize
-    requires { at + 20 ≤ length out.old }
-    ensures put_row { PutRow out.old at (tolerances_row kind tolerances) out.new result }
-    ensures upper_bound { result ≤ at + 20 }
-{
-    if kind == 1 {
-        return put_doubles(&[tolerances.value], out, at);
+    // Where the count is above 16 there are 16, and the reader refuses the count.
+    fn put_coefficients(&mut self, a: [f64; 16], count: usize)
+        requires { self.old.length + 160 ≤ 330 }
+        ensures put_row { Puts (bits_of (take count a)) self.old self.new }
+        ensures upper_bound { self.new.length ≤ self.old.length + 160 }
+    {
+        self.put_doubles(&a[..count.min(16)]);
     }
-    put_doubles(&[tolerances.value, tolerances.point], out, at)
-}
 
-// The starts, the tolerances and the limit.
-fn put_rule(content: Record, out: &mut [u8], at: usize) -> usize
-    requires { at + 50 ≤ length out.old }
-    ensures put_row { PutRow out.old at (rule_row content.kind content.method content.tolerances content.limit) out.new result }
-    ensures upper_bound { result ≤ at + 50 }
-{
-    let p = put_starts(content.method, out, at);
-    let q = put_tolerances(content.kind, content.tolerances, out, p);
-    put_number(content.limit, out, q)
-}
+    // The kind, and the method's number. Kind 1 begins with the method, another with 0 and the kind.
+    fn put_head(&mut self, kind: u64, method: Method)
+        requires { self.old.length + 30 ≤ 330 }
+        ensures put_row { Puts (head_row kind ++ (method_number method ∷ [])) self.old self.new }
+        ensures upper_bound { self.new.length ≤ self.old.length + 30 }
+    {
+        let number = u64::from(method.number());
+        if kind == 1 {
+            return self.put_number(number);
+        }
+        self.put_number(0);
+        self.put_number(kind);
+        self.put_number(number);
+    }
 
-// The head, the coefficients with their count, and the rest of the call.
-fn put_call(content: Record, out: &mut [u8]) -> usize
-    requires { 250 ≤ length out.old }
-    ensures put_row { PutRow out.old 0 (call_row content) out.new result }
-    ensures upper_bound { result ≤ 250 }
-{
-    let p = put_head(content.kind, content.method, out);
-    let q = put_number(content.count as u64, out, p);
-    let t = put_coefficients(content.coefficients, content.count, out, q);
-    put_rule(content, out, t)
-}
+    // Kind 1 has one tolerance; another has that of values and then that of points.
+    fn put_tolerances(&mut self, kind: u64, tolerances: Tolerances)
+        requires { self.old.length + 20 ≤ 330 }
+        ensures put_row { Puts (tolerances_row kind tolerances) self.old self.new }
+        ensures upper_bound { self.new.length ≤ self.old.length + 20 }
+    {
+        if kind == 1 {
+            return self.put_doubles(&[tolerances.value]);
+        }
+        self.put_doubles(&[tolerances.value, tolerances.point]);
+    }
 
-// The kind of an answer and its numbers.
-fn put_answer(answer: Answer, out: &mut [u8], at: usize) -> usize
-    requires { at + 40 ≤ length out.old }
-    ensures put_row { PutRow out.old at (answer_row answer) out.new result }
-    ensures upper_bound { result ≤ at + 40 }
-{
-    let kind = answer.kind();
-    let p = put_number(kind, out, at);
-    let numbers = answer.numbers();
-    put_doubles(&numbers[..number_count(kind)], out, p)
-}
+    // The starts, the tolerances and the limit.
+    fn put_rule(&mut self, content: &Record)
+        requires { self.old.length + 50 ≤ 330 }
+        ensures put_row { Puts (rule_row content.now.kind content.now.method content.now.tolerances content.now.limit) self.old self.new }
+        ensures upper_bound { self.new.length ≤ self.old.length + 50 }
+    {
+        self.put_starts(content.method);
+        self.put_tolerances(content.kind, content.tolerances);
+        self.put_number(content.limit);
+    }
 
-// The tallies and the mark.
-fn put_progress(progress: Progress, out: &mut [u8], at: usize) -> usize
-    requires { at + 40 ≤ length out.old }
-    ensures put_row { PutRow out.old at (progress_row progress) out.new result }
-    ensures upper_bound { result ≤ at + 40 }
-{
-    let tally = progress.tally;
-    let p = put_number(tally.steps.0, out, at);
-    let q = put_number(tally.values.0, out, p);
-    let t = put_number(tally.derivatives.0, out, q);
-    put_number(u64::from(progress.mark), out, t)
-}
+    // The head, the coefficients with their count, and the rest of the call.
+    fn put_call(&mut self, content: &Record)
+        requires { self.old.length + 250 ≤ 330 }
+        ensures put_row { Puts (call_row content.now) self.old self.new }
+        ensures upper_bound { self.new.length ≤ self.old.length + 250 }
+    {
+        self.put_head(content.kind, content.method);
+        self.put_number(content.count as u64);
+        self.put_coefficients(content.coefficients, content.count);
+        self.put_rule(content);
+    }
 
-// The whole row, right or not: at most 33 numbers of ten bytes.
-fn put_record(content: Record, out: &mut [u8]) -> usize
-    requires { 330 ≤ length out.old }
-    ensures put_row { PutRow out.old 0 (row_of content) out.new result }
-    ensures upper_bound { result ≤ 330 }
-{
-    let p = put_call(content, out);
-    let q = put_answer(content.outcome.answer, out, p);
-    put_progress(content.outcome.progress, out, q)
+    // The kind of an answer and its numbers.
+    fn put_answer(&mut self, answer: Answer)
+        requires { self.old.length + 40 ≤ 330 }
+        ensures put_row { Puts (answer_row answer) self.old self.new }
+        ensures upper_bound { self.new.length ≤ self.old.length + 40 }
+    {
+        let kind = answer.kind();
+        self.put_number(kind);
+        let numbers = answer.numbers();
+        self.put_doubles(&numbers[..number_count(kind)]);
+    }
+
+    // The tallies and the mark.
+    fn put_progress(&mut self, progress: Progress)
+        requires { self.old.length + 40 ≤ 330 }
+        ensures put_row { Puts (progress_row progress) self.old self.new }
+        ensures upper_bound { self.new.length ≤ self.old.length + 40 }
+    {
+        let tally = progress.tally;
+        self.put_number(tally.steps.0);
+        self.put_number(tally.values.0);
+        self.put_number(tally.derivatives.0);
+        self.put_number(u64::from(progress.mark));
+    }
+
+    // The whole row, right or not.
+    fn of(content: &Record) -> Draft
+        ensures { Drawn (row_of content.now) result }
+    {
+        let mut draft = Draft {
+            bytes: [0; 330],
+            length: 0,
+        };
+        draft.put_call(content);
+        draft.put_answer(content.outcome.answer);
+        draft.put_progress(content.outcome.progress);
+        draft
+    }
 }
 
 // Whether the bytes are one record, with nothing behind it.
@@ -507,14 +521,14 @@ pub fn write(content: Record, out: &mut [u8]) -> Result<usize, Refusal>
     if !holds_both(content.kind, content.tolerances) {
         return Err(Refusal::NoRecord);
     }
-    let mut aside = [0u8; 330];
-    let n = put_record(content, &mut aside);
-    if !is_whole(&aside[..n]) {
+    let draft = Draft::of(&content);
+    let n = draft.length;
+    if !is_whole(&draft.bytes[..n]) {
         return Err(Refusal::NoRecord);
     }
     if out.len() < n {
         return Err(Refusal::NoRoom);
     }
-    out[..n].copy_from_slice(&aside[..n]);
+    out[..n].copy_from_slice(&draft.bytes[..n]);
     Ok(n)
 }

@@ -5,7 +5,7 @@ use Rattle.std.proofs.Math.Nat.{pow-le-pow_right}
 use borrow.Author.Tests.{eq-eqb, ne_eqb, eqb-true, eqb-false, ltb-true, ltb-false}
 use Rattle.std.specs.Int.{w64}
 use Rattle.rows.specs.Groups.{Found, found, none, above, number_in, number_of, Took, tenth_at}
-use Rattle.rows.proofs.GroupLaws.{number_last, number_on}
+use Rattle.rows.proofs.GroupLaws.{none_found, number_last, number_on}
 use Rattle.rows.specs.declared.Taken.{Taken}
 use Rattle.rows.specs.TakeLaws.{Taking}
 
@@ -170,8 +170,8 @@ same_place s i j h k e = let a = ap length e in let b = length-drop i s in let c
 
 pub taken_fixed : (s : List ℕ) (at : ℕ) (x y : Option (Taken ℕ)) → Took s at x → Took s at y → x ≡ y
 taken_fixed s at None None p q = refl
-taken_fixed s at None (Some y) p q = absurd (let e : none ≡ found y.value (drop y.next s) = sym p ∙ q.is in let z : ◌≡◌ {A = ℕ} 0 1 = cc in omega arith)
-taken_fixed s at (Some x) None p q = absurd (let e : found x.value (drop x.next s) ≡ none = sym p.is ∙ q in let z : ◌≡◌ {A = ℕ} 0 1 = cc in omega arith)
+taken_fixed s at None (Some y) p q = none_found (sym p ∙ q.is)
+taken_fixed s at (Some x) None p q = none_found (sym q ∙ p.is)
 taken_fixed s at (Some x) (Some y) p q =
     let e : found x.value (drop x.next s) ≡ found y.value (drop y.next s) = sym p.is ∙ q.is in
     let a : x.value ≡ y.value = cc in

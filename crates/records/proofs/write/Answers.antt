@@ -8,14 +8,14 @@ pub slice_bounds-is_whole-end : goal.slice_bounds-is_whole-end
 slice_bounds-is_whole-end c = search count_is
 
 pub returns-then-not-is_whole : goal.returns-then-not-is_whole
-returns-then-not-is_whole c = let p = not_whole _ _ c.holds_both.ensures c.if-not-holds_both.false c.put_record-n.ensures.put_row c.is_whole.ensures c.if-not-is_whole.true in record { verdict = p.0; bytes = p.1 }
+returns-then-not-is_whole c = let p = not_whole _ _ c.holds_both.ensures c.if-not-holds_both.false c.of-draft.ensures c.is_whole.ensures c.if-not-is_whole.true in record { verdict = p.0; bytes = p.1 }
 
 pub returns-then-out-n : goal.returns-then-out-n
 returns-then-out-n c =
-    let p = no_room _ _ c.holds_both.ensures c.if-not-holds_both.false c.put_record-n.ensures.put_row c.is_whole.ensures c.if-not-is_whole.false c.if-out-n.true in
+    let p = no_room _ _ c.holds_both.ensures c.if-not-holds_both.false c.of-draft.ensures c.is_whole.ensures c.if-not-is_whole.false c.if-out-n.true in
     record { verdict = p.0; bytes = p.1 }
 
 pub returns : goal.returns
 returns c =
-    let p = written _ _ c.holds_both.ensures c.if-not-holds_both.false c.put_record-n.ensures.put_row c.is_whole.ensures c.if-not-is_whole.false c.if-out-n.false c.copy_from_slice.ensures.after in
+    let p = written _ _ c.holds_both.ensures c.if-not-holds_both.false c.of-draft.ensures c.is_whole.ensures c.if-not-is_whole.false c.if-out-n.false c.copy_from_slice.ensures.after in
     record { verdict = p.0; bytes = p.1 }
