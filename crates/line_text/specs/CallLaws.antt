@@ -1,5 +1,5 @@
 -- The doubles of a line, read one after the other.
-use Rattle.std.specs.Prelude.{ℕ, zero, suc, ◌+◌, ◌-◌, ◌≤◌, ◌<◌, Bool, true, false, cond, ◌&&◌, List, [], ◌∷◌, ◌++◌, ◌≡◌, refl, length, take, drop, set, Float}
+use Rattle.std.specs.Prelude.{ℕ, zero, suc, ◌+◌, ◌-◌, ◌≤◌, ◌<◌, Bool, true, false, cond, ◌&&◌, List, [], ◌∷◌, ◌++◌, ◌≡◌, refl, length, take, drop, set, Float, Option, Some, None, is_some}
 use Rattle.std.proofs.Common.{add-one, arith, append_assoc, sym, ap, ◌∙◌, length-set, take-append-drop, drop-cons, drop-set-lt, take-suc-set}
 use Rattle.std.proofs.lemmas.Bool.{false≢true}
 use Rattle.std.specs.Float.{nan, binary64}
@@ -7,12 +7,8 @@ use Rattle.std.specs.Float.Ieee.{of_bits}
 use Rattle.line_text.specs.Digits.{word_of}
 use Rattle.line_text.specs.Fields.{field_of, rest_of, Field}
 use Rattle.line_text.specs.FieldLaws.{same_place}
-use Rattle.line_text.specs.Calls.{past, is_number, all_words, double_of, doubles_of, filled_with, Ends, Filled}
+use Rattle.line_text.specs.Calls.{past, all_words, double_of, doubles_of, filled_with, Ends, Filled}
 use Rattle.line_text.specs.declared.fields.Span.{Span}
-use Rattle.line_text.specs.declared.digits.Number.{Number}
-use Rattle.line_text.specs.declared.digits.Number.TheVariants.{Is, Wrong}
-use Rattle.line_text.specs.declared.call.Place.{Place}
-use Rattle.line_text.specs.declared.call.Place.TheVariants as place
 
 -- i of k doubles are read, and p is where they end
 pub record Filling (s : List ℕ) (at k : ℕ) (before a : List Float) (p i : ℕ) : Type 0 where
@@ -23,14 +19,8 @@ pub record Filling (s : List ℕ) (at k : ℕ) (before a : List Float) (p i : �
   pub are : take i a ++ filled_with (k - i) (drop p s) (drop i a) ≡ filled_with k (drop at s) before
   pub leaves : past (k - i) (drop p s) ≡ past k (drop at s)
 
-pub fill_starts : (s : List ℕ) (at k : ℕ) (a : List Float) → at ≤ length s → k ≤ length a → Filling s at k a a at 0
-fill_starts s at k a h l = record { within = h; count = omega arith; room = l; all = rw all_left; are = rw all_left; leaves = rw all_left }
-  where
-    all_left : k - 0 ≡ k
-    all_left = omega arith
-
 -- the next field as a number
-module _ (s : List ℕ) (at k : ℕ) (before a : List Float) (p i : ℕ) (g : Filling s at k before a p i) (h : i < k) {f : Span} (j : Field s p f) {w : Number} (e : w ≡ word_of (take (f.to - f.from) (drop f.from s))) where
+module _ (s : List ℕ) (at k : ℕ) (before a : List Float) (p i : ℕ) (g : Filling s at k before a p i) (h : i < k) {f : Span} (j : Field s p f) {w : Option ℕ} (e : w ≡ word_of (take (f.to - f.from) (drop f.from s))) where
   one_more : k - i ≡ suc (k - (i + 1))
   one_more = omega arith
 
@@ -40,13 +30,13 @@ module _ (s : List ℕ) (at k : ℕ) (before a : List Float) (p i : ℕ) (g : Fi
   inside : i < length a
   inside = let r = g.room in omega arith
 
-  pub fill_wrong : w ≡ Wrong → Filled s at k before a place.Wrong
+  pub fill_wrong : w ≡ None → Filled s at k before a None
   fill_wrong q = record { ends = sym g.all ∙ rw (one_more, the_word, q); array = sym (take-append-drop i a) ∙ as_it_is ∙ g.are }
     where
       as_it_is : take i a ++ drop i a ≡ take i a ++ filled_with (k - i) (drop p s) (drop i a)
       as_it_is = rw (one_more, drop-cons a i nan inside, the_word, q)
 
-  module _ {n : ℕ} (q : w ≡ Is n) where
+  module _ {n : ℕ} (q : w ≡ Some n) where
     all_on : all_words (k - i) (drop p s) ≡ all_words (k - (i + 1)) (drop f.to s)
     all_on = rw (one_more, the_word, q, j.leaves)
 
@@ -67,21 +57,11 @@ module _ (s : List ℕ) (at k : ℕ) (before a : List Float) (p i : ℕ) (g : Fi
         are_on : take (i + 1) (set a i x) ++ filled_with (k - (i + 1)) (drop f.to s) (drop (i + 1) (set a i x)) ≡ take i a ++ filled_with (k - i) (drop p s) (drop i a)
         are_on = rw (one_more, drop-cons a i nan inside, the_word, q, v, j.leaves, add-one i, take-suc-set a i (of_bits binary64 n) inside, drop-set-lt (suc i) a i (of_bits binary64 n) (omega arith), append_assoc)
 
-pub fill_done : (s : List ℕ) (at k : ℕ) (before a : List Float) (p i : ℕ) → Filling s at k before a p i → k ≤ i → Filled s at k before a (place.At p)
-fill_done s at k before a p i g h =
-    record {
-      ends = record { within = g.within; all = sym g.all ∙ rw none_left; leaves = rw none_left at g.leaves };
-      array = sym (take-append-drop i a) ∙ rw none_left at g.are;
-    }
-  where
-    none_left : k - i ≡ 0
-    none_left = omega arith
-
 -- where each is a word, the array begins with their doubles
 pub filled_front : (k : ℕ) (t : List ℕ) (a : List Float) → k ≤ length a → all_words k t ≡ true → take k (filled_with k t a) ≡ doubles_of k t
 filled_front zero t a h e = refl
 filled_front (suc k) t [] h e = absurd (omega arith)
-filled_front (suc k) t (x ∷ a) h e = go (is_number (word_of (field_of t))) e (filled_front k (rest_of t) a (omega arith))
+filled_front (suc k) t (x ∷ a) h e = go (is_some (word_of (field_of t))) e (filled_front k (rest_of t) a (omega arith))
   where
     d : Float
     d = double_of (word_of (field_of t))
@@ -91,8 +71,8 @@ filled_front (suc k) t (x ∷ a) h e = go (is_number (word_of (field_of t))) e (
     go false e l = absurd (false≢true e)
 
 -- one place
-pub ends_fixed : (s : List ℕ) (at k : ℕ) (v w : Place) → Ends s at k v → Ends s at k w → v ≡ w
-ends_fixed s at k (place.At p) (place.At q) x y = ap place.At (same_place s p q x.within y.within (x.leaves ∙ sym y.leaves))
-ends_fixed s at k (place.At p) place.Wrong x y = cc
-ends_fixed s at k place.Wrong (place.At q) x y = cc
-ends_fixed s at k place.Wrong place.Wrong x y = refl
+pub ends_fixed : (s : List ℕ) (at k : ℕ) (v w : Option ℕ) → Ends s at k v → Ends s at k w → v ≡ w
+ends_fixed s at k (Some p) (Some q) x y = ap Some (same_place s p q x.within y.within (x.leaves ∙ sym y.leaves))
+ends_fixed s at k (Some p) None x y = cc
+ends_fixed s at k None (Some q) x y = cc
+ends_fixed s at k None None x y = refl

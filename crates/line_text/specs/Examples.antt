@@ -1,15 +1,15 @@
 -- Texts worked out. Assumes nothing.
-use Rattle.std.specs.Prelude.{true, [], ◌∷◌, ◌≡◌, refl, Float}
+use Rattle.std.specs.Prelude.{true, [], ◌∷◌, ◌≡◌, refl, Float, Some, None, Err}
 use Rattle.std.specs.Float.{binary64, nan, inf}
 use Rattle.std.specs.Float.Ieee.{of_bits, of_fields}
 use Rattle.simple_convergency.specs.Stop.{tolerances_of}
 use Rattle.roots.specs.declared.Method.TheVariants.{Brent, NewtonRaphson}
+use Rattle.roots.specs.Methods.{start_count, method_of}
 use Rattle.line_text.specs.Digits.{digit_of, number_from, decimal_of, word_of}
 use Rattle.line_text.specs.Fields.{field_of, rest_of}
-use Rattle.line_text.specs.Calls.{call, no_call, method_number, start_count, method_of, with_limit, with_doubles, with_count, asked_of, count_fills, line_fills}
+use Rattle.line_text.specs.Calls.{call, method_number, with_limit, with_doubles, with_count, asked_of, count_fills, line_fills}
 use Rattle.line_text.specs.Texts.{bytes, decimal_text, hex_text, trimmed, reply_to}
 use Rattle.line_text.specs.Inputs.{fresh, grown, next_line, reply_at, line_after, replies_to, stored, buffer_after, count_taken}
-use Rattle.line_text.specs.declared.digits.Number.TheVariants.{Is, Wrong}
 use Rattle.line_text.specs.declared.call.Fault.TheVariants as fault
 
 abbrev nought : Float
@@ -27,21 +27,21 @@ small = of_bits binary64 0x3f50_0000_0000_0000
 
 -- 1/1024, in either case of letters; 15 digits, and a letter behind f, are no word
 words :
-    (word_of (bytes "3f50000000000000") ≡ Is 0x3f50_0000_0000_0000)
-    × (word_of (bytes "3F50000000000000") ≡ Is 0x3f50_0000_0000_0000)
-    × (word_of (bytes "ffffffffffffffff") ≡ Is 0xffff_ffff_ffff_ffff)
-    × (word_of (bytes "3f5000000000000") ≡ Wrong)
-    × (word_of (bytes "3g50000000000000") ≡ Wrong)
+    (word_of (bytes "3f50000000000000") ≡ Some 0x3f50_0000_0000_0000)
+    × (word_of (bytes "3F50000000000000") ≡ Some 0x3f50_0000_0000_0000)
+    × (word_of (bytes "ffffffffffffffff") ≡ Some 0xffff_ffff_ffff_ffff)
+    × (word_of (bytes "3f5000000000000") ≡ None)
+    × (word_of (bytes "3g50000000000000") ≡ None)
 unfolding word_of number_from digit_of
 words = (refl, refl, refl, refl, refl)
 
 -- the largest limit, the number after it, zeros in front, a hexadecimal digit, and nothing
 decimals :
-    (decimal_of (bytes "18446744073709551615") ≡ Is 18446744073709551615)
-    × (decimal_of (bytes "18446744073709551616") ≡ Wrong)
-    × (decimal_of (bytes "0000000000000000000000000007") ≡ Is 7)
-    × (decimal_of (bytes "1a") ≡ Wrong)
-    × (decimal_of [] ≡ Wrong)
+    (decimal_of (bytes "18446744073709551615") ≡ Some 18446744073709551615)
+    × (decimal_of (bytes "18446744073709551616") ≡ None)
+    × (decimal_of (bytes "0000000000000000000000000007") ≡ Some 7)
+    × (decimal_of (bytes "1a") ≡ None)
+    × (decimal_of [] ≡ None)
 unfolding decimal_of number_from digit_of
 decimals = (refl, refl, refl, refl, refl)
 
@@ -79,11 +79,11 @@ lines = (refl, refl)
 
 -- a start or a tolerance that is missing, one too many, and a count that is no number
 no_lines :
-    (asked_of (bytes "1 1 bff0000000000000 0000000000000000 3f50000000000000 3f50000000000000 2") ≡ no_call fault.Number)
-    × (asked_of (bytes "4 1 bff0000000000000 0000000000000000 4000000000000000 3f50000000000000 3f50000000000000 2") ≡ no_call fault.Limit)
-    × (asked_of (bytes "4 -1 bff0000000000000") ≡ no_call fault.Count)
-    × (asked_of (bytes "6") ≡ no_call fault.Method)
-    × (asked_of [] ≡ no_call fault.Empty)
+    (asked_of (bytes "1 1 bff0000000000000 0000000000000000 3f50000000000000 3f50000000000000 2") ≡ Err fault.Number)
+    × (asked_of (bytes "4 1 bff0000000000000 0000000000000000 4000000000000000 3f50000000000000 3f50000000000000 2") ≡ Err fault.Limit)
+    × (asked_of (bytes "4 -1 bff0000000000000") ≡ Err fault.Count)
+    × (asked_of (bytes "6") ≡ Err fault.Method)
+    × (asked_of [] ≡ Err fault.Empty)
 unfolding asked_of field_of rest_of method_number with_count decimal_of number_from digit_of with_doubles start_count word_of with_limit method_of
 no_lines = (refl, refl, refl, refl, refl)
 

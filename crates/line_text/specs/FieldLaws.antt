@@ -1,86 +1,66 @@
--- A line read byte by byte.
-use Rattle.std.specs.Prelude.{ℕ, suc, ◌+◌, ◌-◌, ◌≤◌, ◌<◌, true, false, List, [], ◌∷◌, ◌++◌, ◌≡◌, refl, eqb, length, take, drop, get_or}
-use Rattle.std.proofs.Common.{add-one, arith, append_assoc, append-nil, sym, ap, ◌∙◌, length-drop, drop_of_length-le, drop-cons, take-suc, get_or-drop, length-take-le, eq-eqb, ne_eqb}
-use Rattle.line_text.specs.Fields.{skipped, until_space, from_space, field_of, rest_of, Skipped, Ended, Field}
+-- A line read field by field.
+use Rattle.std.specs.Prelude.{ℕ, suc, ◌+◌, ◌-◌, ◌≤◌, ◌<◌, Bool, true, false, cond, not, List, [], ◌∷◌, ◌++◌, ◌≡◌, refl, eqb, ltb, length, take, drop, get_or, position, Option, Some, None, unwrap_or}
+use Rattle.std.proofs.lemmas.Bool.Decides.{nat_tests}
+use Rattle.std.proofs.Common.{arith, sym, ap, ◌∙◌, length-drop, take-suc, get_or-drop, length-take-le, eq-eqb, ne_eqb, drop-drop}
+use Rattle.std.proofs.Math.Seq.{take-length}
+use Rattle.std.specs.List.{position_or_len}
+use Rattle.std.proofs.lemmas.List.Sums.{prefix_len-le-length}
+use Rattle.line_text.specs.Fields.{field_of, rest_of, Field}
 use Rattle.line_text.specs.declared.fields.Span.{Span}
 
--- nothing is left from the end on
-none : (s : List ℕ) (i : ℕ) → length s ≤ i → drop i s ≡ []
-none s i h = drop_of_length-le s h
-
-module _ (s : List ℕ) (i : ℕ) (h : i < length s) where
-  one_off : drop i s ≡ get_or s i 0 ∷ drop (i + 1) s
-  one_off = rw (add-one, drop-cons s i 0)
-
-  -- a part with one byte more
-  pub part_more : (from : ℕ) → from ≤ i → take (i + 1 - from) (drop from s) ≡ take (i - from) (drop from s) ++ (get_or s i 0 ∷ [])
-  part_more from l = rw (counts, take-suc (drop from s) (i - from) 0 inside, get_or-drop, here)
-    where
-      counts : i + 1 - from ≡ suc (i - from)
-      counts = omega arith
-
-      here : from + (i - from) ≡ i
-      here = omega arith
-
-      inside : i - from < length (drop from s)
-      inside = rw length-drop (omega arith)
-
--- ---- spaces in front
-
-module _ (s : List ℕ) (at i : ℕ) (k : skipped (drop i s) ≡ skipped (drop at s)) where
-  pub skip_on : i < length s → get_or s i 0 ≡ 32 → skipped (drop (i + 1) s) ≡ skipped (drop at s)
-  skip_on h e = sym (rw (one_off s i h, eq-eqb (get_or s i 0) 32 e)) ∙ k
-
-  pub skip_stop : i < length s → (get_or s i 0 ≡ 32 → ⊥) → Skipped s at i
-  skip_stop h n = record { within = omega arith; is = sym (rw (one_off s i h, ne_eqb (get_or s i 0) 32 n)) ∙ k }
-
-  pub skip_end : i ≤ length s → length s ≤ i → Skipped s at i
-  skip_end h l = record { within = h; is = sym (rw (none s i l)) ∙ k }
-
--- ---- up to a space
-
-pub record Ending (s : List ℕ) (at i : ℕ) : Type 0 where
-  pub past : at ≤ i
-  pub within : i ≤ length s
-  pub is : take (i - at) (drop at s) ++ until_space (drop i s) ≡ until_space (drop at s)
-  pub leaves : from_space (drop i s) ≡ from_space (drop at s)
-
-pub end_starts : (s : List ℕ) (at : ℕ) → at ≤ length s → Ending s at at
-end_starts s at h = record { past = omega arith; within = h; is = rw nought; leaves = refl }
+-- a part with one byte more
+pub part_more : (s : List ℕ) (i : ℕ) → i < length s → (from : ℕ) → from ≤ i → take (i + 1 - from) (drop from s) ≡ take (i - from) (drop from s) ++ (get_or s i 0 ∷ [])
+part_more s i h from l = rw (counts, take-suc (drop from s) (i - from) 0 inside, get_or-drop, here)
   where
-    nought : at - at ≡ 0
-    nought = omega arith
+    counts : i + 1 - from ≡ suc (i - from)
+    counts = omega arith
 
-module _ (s : List ℕ) (at i : ℕ) (e : Ending s at i) where
-  pub end_on : i < length s → (get_or s i 0 ≡ 32 → ⊥) → Ending s at (i + 1)
-  end_on h n = record { past = omega arith; within = omega arith; is = longer ∙ e.is; leaves = sym (rw (one_off s i h, ne_eqb (get_or s i 0) 32 n)) ∙ e.leaves }
+    here : from + (i - from) ≡ i
+    here = omega arith
+
+    inside : i - from < length (drop from s)
+    inside = rw length-drop (omega arith)
+
+-- what stands from an index on, as a part
+pub rest_part : (s : List ℕ) (i : ℕ) → take (length s - i) (drop i s) ≡ drop i s
+rest_part s i = rw (← length-drop i s, take-length)
+
+-- ---- the first byte that passes, or the end
+
+pub found_or_end : (p : ℕ → Bool) (t : List ℕ) {r : Option ℕ} {n : ℕ} → r ≡ position p t → n ≡ unwrap_or r (length t) → (n ≡ position_or_len p t) × (n ≤ length t)
+found_or_end p t {r} {n} e f = (is, rw is short)
+  where
+    short : position_or_len p t ≤ length t
+    short = prefix_len-le-length (λ b. not (p b)) t
+
+    at_end : (b : Bool) → b ≡ ltb (position_or_len p t) (length t) → unwrap_or (cond b (Some (position_or_len p t)) None) (length t) ≡ position_or_len p t
+    at_end true h = refl
+    at_end false h = let l = short in grind (arith, nat_tests)
+
+    is : n ≡ position_or_len p t
+    is = f ∙ rw e (at_end (ltb (position_or_len p t) (length t)) refl)
+
+-- ---- a field, behind the spaces in front of it
+
+pub part_within : (s : List ℕ) (at : ℕ) {n : ℕ} → at ≤ length s → n ≤ length (take (length s - at) (drop at s)) → at + n ≤ length s
+part_within s at {n} h l = let a : n ≤ length s - at = rw (rest_part, length-drop) at l in omega arith
+
+module _ (s : List ℕ) (at : ℕ) {n m : ℕ} (e : n ≡ position_or_len (λ b. not (eqb b 32)) (take (length s - at) (drop at s))) (f : m ≡ position_or_len (λ b. eqb b 32) (take (length s - (at + n)) (drop (at + n) s))) (h : at ≤ length s) (l : n ≤ length (take (length s - at) (drop at s))) (k : m ≤ length (take (length s - (at + n)) (drop (at + n) s))) where
+  spaces_is : n ≡ position_or_len (λ b. not (eqb b 32)) (drop at s)
+  spaces_is = rw rest_part at e
+
+  field_is : m ≡ position_or_len (λ b. eqb b 32) (drop (at + n) s)
+  field_is = rw rest_part at f
+
+  pub field_found : Field s at (record { from = at + n; to = at + n + m })
+  unfolding field_of rest_of
+  field_found = record { past = omega arith; within = part_within s (at + n) (part_within s at h l) k; is = rw (long, field_is, spaces_is, part); leaves = rw (← drop-drop m (at + n) s, field_is, spaces_is, part) }
     where
-      longer : take (i + 1 - at) (drop at s) ++ until_space (drop (i + 1) s) ≡ take (i - at) (drop at s) ++ until_space (drop i s)
-      longer = rw (part_more s i h at e.past, append_assoc, one_off s i h, ne_eqb (get_or s i 0) 32 n)
+      long : at + n + m - (at + n) ≡ m
+      long = omega arith
 
-  pub end_stop : i < length s → get_or s i 0 ≡ 32 → Ended s at i
-  end_stop h n = record { past = e.past; within = e.within; is = kept ∙ e.is; leaves = left ∙ e.leaves }
-    where
-      kept : take (i - at) (drop at s) ≡ take (i - at) (drop at s) ++ until_space (drop i s)
-      kept = rw (one_off s i h, eq-eqb (get_or s i 0) 32 n, append-nil)
-
-      left : drop i s ≡ from_space (drop i s)
-      left = rw (one_off s i h, eq-eqb (get_or s i 0) 32 n)
-
-  pub end_end : length s ≤ i → Ended s at i
-  end_end l = record { past = e.past; within = e.within; is = kept ∙ e.is; leaves = left ∙ e.leaves }
-    where
-      kept : take (i - at) (drop at s) ≡ take (i - at) (drop at s) ++ until_space (drop i s)
-      kept = rw (none s i l, append-nil)
-
-      left : drop i s ≡ from_space (drop i s)
-      left = rw (none s i l)
-
--- ---- the two together
-
-pub field_found : (s : List ℕ) (at from to : ℕ) → Skipped s at from → Ended s from to → Field s at (record { from = from; to = to })
-unfolding field_of rest_of
-field_found s at from to a b = record { past = b.past; within = b.within; is = b.is ∙ ap until_space a.is; leaves = b.leaves ∙ ap from_space a.is }
+      part : drop (at + position_or_len (λ b. not (eqb b 32)) (drop at s)) s ≡ drop (position_or_len (λ b. not (eqb b 32)) (drop at s)) (drop at s)
+      part = sym (drop-drop (position_or_len (λ b. not (eqb b 32)) (drop at s)) at s)
 
 -- ---- a field's length, and its place
 

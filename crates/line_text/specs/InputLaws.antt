@@ -75,20 +75,6 @@ module _ (line out : List ℕ) (s : State) (f : Fine line out s) (b : ℕ) where
 
 -- ---- a block
 
-nothing_yet : (block : List ℕ) (from : ℕ) → take (from - from) (drop from block) ≡ []
-nothing_yet block from = let e : from - from ≡ 0 = omega arith in rw e
-
-pub feed_starts : (block : List ℕ) (from : ℕ) (line out : List ℕ) (s : State) → from < length block → Fine line out s → Fed block from line out s from line out s
-feed_starts block from line out s h f =
-    record {
-      past = omega arith;
-      within = omega arith;
-      fine = f;
-      begun = rw (nothing_yet block from);
-      buffer = rw (nothing_yet block from);
-      replies = rw (nothing_yet block from) (put_nothing out s.waiting f.waiting);
-    }
-
 module _ (block : List ℕ) (i : ℕ) (h : i < length block) (line out : List ℕ) (s : State) {line' out' : List ℕ} {r : State} (t : Taken line out s (get_or block i 0) line' out' r) where
   one_off : drop i block ≡ get_or block i 0 ∷ drop (i + 1) block
   one_off = rw (add-one, drop-cons block i 0)
@@ -109,17 +95,11 @@ module _ (block : List ℕ) (i : ℕ) (h : i < length block) (line out : List �
 
   -- where the block is left
   module _ (from : ℕ) (line₀ out₀ : List ℕ) (s₀ : State) (k : stops_at block i line out s ≡ stops_at block from line₀ out₀ s₀) (o : length out' ≡ length out) where
-    pub stop_full : length out' - 156 < r.waiting → i + 1 ≡ stops_at block from line₀ out₀ s₀
-    stop_full l = sym (rw (one_off, ← t.replies.ends, lt-ltb (length out - 156) r.waiting (rw o at l))) ∙ k
-
     pub stop_on : length line' ≡ length line → r.waiting ≤ length out' - 156 → stops_at block (i + 1) line' out' r ≡ stops_at block from line₀ out₀ s₀
     stop_on e l = rw (e, o) (let p = one_more in omega arith)
       where
         one_more : stops_at block i line out s ≡ i + (1 + count_taken (length line) (length out - 156) (line_of line' r) r.waiting (drop (i + 1) block))
         one_more = rw (one_off, ← t.replies.ends, le-ltb (length out - 156) r.waiting (rw o at l), ← t.begun)
-
-pub stop_end : (block : List ℕ) (i : ℕ) (line out : List ℕ) (s : State) {n : ℕ} → stops_at block i line out s ≡ n → length block ≤ i → i ≡ n
-stop_end block i line out s {n} k h = let e : i + 0 ≡ n = rw (drop_of_length-le block h) at k in omega arith
 
 -- nothing is left open: the state is told by the line that has begun and by the replies
 module _ {block : List ℕ} {from : ℕ} {line out : List ℕ} {s : State} {i j : ℕ} (e : i ≡ j) {line' out' line'' out'' : List ℕ} {r q : State} (x : Fed block from line out s i line' out' r) (z : Fed block from line out s j line'' out'' q) where

@@ -1,65 +1,70 @@
 -- A line's reply.
-use Rattle.std.specs.Prelude.{ℕ, ◌-◌, ◌≤◌, Bool, true, false, List, [], ◌∷◌, ◌≡◌, refl, length, take, get_or, Float}
-use Rattle.std.proofs.Common.{arith, sym, length-take-le, eq-eqb, ne_eqb}
+use Rattle.std.specs.Prelude.{ℕ, suc, ◌+◌, ◌-◌, ◌≤◌, Bool, true, false, cond, List, [], ◌∷◌, ◌≡◌, refl, eqb, length, take, drop, get_or, Float, Option, Some, None, unwrap_or, MatchOption, Result, Ok, Err}
+use lib.Pointwise.{pointwise}
+use Rattle.std.proofs.Math.Bool.{and-true}
 use Rattle.std.proofs.Math.Seq.{take-length}
+use Rattle.std.proofs.Common.{Bor, arith, sym, ap, ◌∙◌, length-take-le, drop-cons, drop_of_length-le}
 use Rattle.numerical.specs.declared.Outcome.{Outcome}
 use Rattle.roots.specs.Calls.{answer}
 use Rattle.line_text.specs.Calls.{Asked, asked_of, asked_by, ReadAs}
-use Rattle.line_text.specs.Texts.{bytes, text_of, fault_text, replied, trimmed, reply_to, line_reply, Put}
+use Rattle.line_text.specs.Texts.{text_of, fault_text, replied, trimmed, reply_to, Put}
 use Rattle.line_text.specs.declared.call.Call.{Call}
 use Rattle.line_text.specs.declared.call.Fault.{Fault}
-use Rattle.line_text.specs.declared.call.Reading.{Reading}
-use Rattle.line_text.specs.declared.call.Reading.TheVariants as reading
 
 -- ---- the carriage return
 
-pub trim_empty : (s : List ℕ) → length s ≡ 0 → take 0 s ≡ trimmed s
+ends_in : (s : List ℕ) → pointwise eqb (drop (length s - 1) s) (13 ∷ []) ≡ eqb (get_or s (length s - 1) 0) 13
+ends_in [] = refl
+ends_in (b ∷ s) = rw (drop-cons (b ∷ s) (length (b ∷ s) - 1) 0 (omega arith), nothing, and-true)
+  where
+    nothing : drop (suc (length (b ∷ s) - 1)) (b ∷ s) ≡ []
+    nothing = let h : length (b ∷ s) ≤ suc (length (b ∷ s) - 1) = omega arith in drop_of_length-le (b ∷ s) h
+
+-- what is left of a line, where its last byte was looked at and taken off
+trim_is : (s : Bor (List ℕ)) (o : Option (Bor (List ℕ))) {r : Bor (List ℕ)} → MatchOption o (pointwise eqb (drop (length s.now - 1) s.now) (13 ∷ []) ≡ false) (λ x. (pointwise eqb (drop (length s.now - 1) s.now) (13 ∷ []) ≡ true) × (x.now ≡ take (length s.now - 1) s.now) × (length x.now + 1 ≡ length s.now)) → r ≡ unwrap_or o s → r.now ≡ trimmed s.now
 unfolding trimmed
-trim_empty [] h = refl
-trim_empty (b ∷ s) h = absurd (omega arith)
+trim_is s None h e = rw (e, ← ends_in s.now, h)
+trim_is s (Some x) h e = rw (e, h.1, ← ends_in s.now, h.0)
 
-module _ (s : List ℕ) where
-  pub trim_off : get_or s (length s - 1) 0 ≡ 13 → take (length s - 1) s ≡ trimmed s
-  unfolding trimmed
-  trim_off h = rw (eq-eqb (get_or s (length s - 1) 0) 13 h)
+trim_part : (s : List ℕ) → (length (trimmed s) ≤ length s) × (take (length (trimmed s)) s ≡ trimmed s)
+unfolding trimmed
+trim_part s = go (eqb (get_or s (length s - 1) 0) 13)
+  where
+    short : length (take (length s - 1) s) ≡ length s - 1
+    short = length-take-le (length s - 1) s (omega arith)
 
-  pub trim_kept : (get_or s (length s - 1) 0 ≡ 13 → ⊥) → take (length s) s ≡ trimmed s
-  unfolding trimmed
-  trim_kept h = rw (ne_eqb (get_or s (length s - 1) 0) 13 h, take-length)
+    go : (b : Bool) → (length (cond b (take (length s - 1) s) s) ≤ length s) × (take (length (cond b (take (length s - 1) s) s)) s ≡ cond b (take (length s - 1) s) s)
+    go true = (omega (arith, short), rw short)
+    go false = (omega arith, take-length s)
+
+pub trim_count : (s : Bor (List ℕ)) (o : Option (Bor (List ℕ))) {r : Bor (List ℕ)} → MatchOption o (pointwise eqb (drop (length s.now - 1) s.now) (13 ∷ []) ≡ false) (λ x. (pointwise eqb (drop (length s.now - 1) s.now) (13 ∷ []) ≡ true) × (x.now ≡ take (length s.now - 1) s.now) × (length x.now + 1 ≡ length s.now)) → r ≡ unwrap_or o s → (length r.now ≤ length s.now) × (take (length r.now) s.now ≡ trimmed s.now)
+trim_count s o h e = rw (trim_is s o h e) (trim_part s.now)
+
+-- one count
+pub trim_fixed : (s : List ℕ) {n m : ℕ} → n ≤ length s → m ≤ length s → take n s ≡ trimmed s → take m s ≡ trimmed s → n ≡ m
+trim_fixed s {n} {m} h k e f = sym (length-take-le n s h) ∙ ap length (e ∙ sym f) ∙ length-take-le m s k
 
 -- ---- the coefficients
 
 pub count_of_part : (n : ℕ) (s : List ℕ) → n ≤ length s → n ≡ length (take n s)
 count_of_part n s h = sym (length-take-le n s h)
 
-module _ (asked : Asked) {filled : List Float} (a : List Float) {r : Reading} {c : Call} (k : ReadAs asked filled a r) (e : r ≡ reading.Call c) where
-  called : ReadAs asked filled a (reading.Call c)
+module _ (asked : Asked) {filled : List Float} (a : List Float) {r : Result Call Fault} {c : Call} (k : ReadAs asked filled a r) (e : r ≡ Ok c) where
+  called : ReadAs asked filled a (Ok c)
   called = rw e at k
 
   pub count_within : c.count ≤ length a
   count_within = called.within
 
-  pub count_of_coefficients : c.count ≡ length (take c.count a)
-  count_of_coefficients = sym (length-take-le c.count a count_within)
-
 -- ---- what was read, and its reply
 
-module _ (s t : List ℕ) {filled : List Float} (a : List Float) {r : Reading} (k : ReadAs (asked_of t) filled a r) (w : t ≡ trimmed s) where
+module _ (s t : List ℕ) {filled : List Float} (a : List Float) {r : Result Call Fault} (k : ReadAs (asked_of t) filled a r) (w : t ≡ trimmed s) where
   replies : replied (asked_by r a) ≡ reply_to s
   unfolding reply_to
   replies = rw (k.is, w)
 
-  pub call_put : (before : List ℕ) (at : ℕ) {now : List ℕ} {p : ℕ} {c : Call} {o : Outcome} → r ≡ reading.Call c → o ≡ answer (take c.count a) c.method c.tolerances c.limit → Put before at (text_of o) now p → Put before at (reply_to s) now p
+  pub call_put : (before : List ℕ) (at : ℕ) {now : List ℕ} {p : ℕ} {c : Call} {o : Outcome} → r ≡ Ok c → o ≡ answer (take c.count a) c.method c.tolerances c.limit → Put before at (text_of o) now p → Put before at (reply_to s) now p
   call_put before at e f g = rw (← replies, e, ← f) g
 
-  pub wrong_put : (before : List ℕ) (at : ℕ) {now : List ℕ} {p : ℕ} {why : Fault} → r ≡ reading.Wrong why → Put before at (fault_text why) now p → Put before at (reply_to s) now p
+  pub wrong_put : (before : List ℕ) (at : ℕ) {now : List ℕ} {p : ℕ} {why : Fault} → r ≡ Err why → Put before at (fault_text why) now p → Put before at (reply_to s) now p
   wrong_put before at e g = rw (← replies, e) g
-
--- ---- too long, or not
-
-module _ (long : Bool) (t before : List ℕ) (at : ℕ) {now : List ℕ} {p : ℕ} where
-  pub long_put : long ≡ true → Put before at (bytes "error too long\n") now p → Put before at (line_reply long t) now p
-  long_put e g = rw e g
-
-  pub short_put : long ≡ false → Put before at (reply_to t) now p → Put before at (line_reply long t) now p
-  short_put e g = rw e g

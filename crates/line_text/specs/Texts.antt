@@ -1,5 +1,5 @@
 -- Answers as text. Definitions, and what the contracts of `text` say of a buffer.
-use Rattle.std.specs.Prelude.{ℕ, zero, suc, ◌+◌, ◌-◌, ◌/◌, ◌%◌, ◌≤◌, Bool, true, false, cond, List, [], ◌∷◌, ◌++◌, ◌≡◌, ltb, eqb, length, take, drop, get_or, Float}
+use Rattle.std.specs.Prelude.{ℕ, zero, suc, ◌+◌, ◌-◌, ◌/◌, ◌%◌, ◌≤◌, Bool, true, false, cond, List, [], ◌∷◌, ◌++◌, ◌≡◌, ltb, eqb, length, take, drop, get_or, flat_map, Float, Ok, Err}
 use Prim.Native.String.{String, [] as none, ◌∷◌ as ◌then◌}
 use Prim.Native.Char.{code}
 use Rattle.std.specs.Float.{binary64}
@@ -9,7 +9,7 @@ use Rattle.numerical.specs.Answers.{kind_of, numbers_of}
 use Rattle.numerical.specs.declared.Outcome.{Outcome}
 use Rattle.numerical.specs.declared.Progress.{Progress}
 use Rattle.roots.specs.Calls.{answer}
-use Rattle.line_text.specs.Calls.{Asked, call, no_call, asked_of}
+use Rattle.line_text.specs.Calls.{Asked, asked_of}
 use Rattle.line_text.specs.declared.call.Fault.{Fault}
 use Rattle.line_text.specs.declared.call.Fault.TheVariants as fault
 
@@ -38,12 +38,14 @@ hex_text n = last_digits 16 16 n
 abbrev pub decimal_field : ℕ → ℕ → List ℕ
 decimal_field n after = decimal_text n ++ (after ∷ [])
 
+abbrev pub hex_field : ℕ → ℕ → List ℕ
+hex_field n after = hex_text n ++ (after ∷ [])
+
 abbrev pub double_field : Float → List ℕ
-double_field x = hex_text (to_bits binary64 x) ++ (32 ∷ [])
+double_field x = hex_field (to_bits binary64 x) 32
 
 abbrev pub numbers_text : List Float → List ℕ
-numbers_text [] = []
-numbers_text (x ∷ l) = double_field x ++ numbers_text l
+numbers_text numbers = flat_map double_field numbers
 
 unfoldable pub progress_text : Progress → List ℕ
 progress_text p =
@@ -66,8 +68,8 @@ fault_text fault.Trailing = bytes "error trailing\n"
 -- ---- a line's reply
 
 abbrev pub replied : Asked → List ℕ
-replied (call a m tolerances limit) = text_of (answer a m tolerances limit)
-replied (no_call why) = fault_text why
+replied (Ok r) = text_of (answer r.coefficients r.method r.tolerances r.limit)
+replied (Err why) = fault_text why
 
 -- a line without the carriage return at its end
 unfoldable pub trimmed : List ℕ → List ℕ

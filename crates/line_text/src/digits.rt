@@ -2,63 +2,47 @@
 ghost use Rattle.std.specs.Prelude.{◌≡◌, ◌≤◌};
 ghost use Rattle.line_text.specs.Digits.{digit_of, number_of, decimal_of, word_of};
 
-// What digits stand for, if they are digits and a u64 holds it.
-#[derive(Clone, Copy)]
-pub enum Number {
-    Is(u64),
-    Wrong,
-}
-
-// The digit that the byte stands for, in upper or lower case, or 16 where it is none.
-pub fn digit(b: u8) -> u64
+// The digit that the byte stands for, in upper or lower case, if it is one.
+pub fn digit(b: u8) -> Option<u64>
     ensures { result ≡ digit_of b }
 {
-    match b {
-        b'0'..=b'9' => (b - b'0') as u64,
-        b'A'..=b'F' => (b - b'A') as u64 + 10,
-        b'a'..=b'f' => (b - b'a') as u64 + 10,
-        _ => 16,
-    }
+    let d = (b as char).to_digit(16)?;
+    Some(u64::from(d))
 }
 
-// The number whose digits in a base are t.
-pub fn number_in(base: u64, t: &[u8]) -> Number
+// The number whose digits in a base are t, if they are digits and a u64 holds it.
+pub fn number_in(base: u64, t: &[u8]) -> Option<u64>
     requires { (2 ≤ base) × (base ≤ 16) }
     ensures { result ≡ number_of base t.now }
 {
     let mut v = 0u64;
-    let mut i = 0;
-    while i < t.len() {
-        let d = digit(t[i]);
+    for b in t {
+        let d = digit(*b)?;
         if base <= d {
-            return Number::Wrong;
+            return None;
         }
-        if (u64::MAX - d) / base < v {
-            return Number::Wrong;
-        }
-        v = v * base + d;
-        i += 1;
+        v = v.checked_mul(base)?.checked_add(d)?;
     }
-    Number::Is(v)
+    Some(v)
 }
 
 // One decimal digit or more.
-pub fn decimal(t: &[u8]) -> Number
+pub fn decimal(t: &[u8]) -> Option<u64>
     ensures { result ≡ decimal_of t.now }
 {
-    if t.len() == 0 {
-        return Number::Wrong;
+    if t.is_empty() {
+        return None;
     }
     number_in(10, t)
 }
 
 // Just 16 hexadecimal digits.
-pub fn word(t: &[u8]) -> Number
+pub fn word(t: &[u8]) -> Option<u64>
     ensures { result ≡ word_of t.now }
 {
     if t.len() == 16 {
         number_in(16, t)
     } else {
-        Number::Wrong
+        None
     }
 }

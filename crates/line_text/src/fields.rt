@@ -1,6 +1,7 @@
 // The fields of a line: what stands between spaces.
-ghost use Rattle.std.specs.Prelude.{◌≤◌, length};
-ghost use Rattle.line_text.specs.Fields.{Skipped, Ended, Field};
+ghost use Rattle.std.specs.Prelude.{◌≡◌, ◌≤◌, eqb, not, length};
+ghost use Rattle.std.specs.List.{position_or_len};
+ghost use Rattle.line_text.specs.Fields.{Field};
 
 // A part of a line, from one index up to another.
 #[derive(Clone, Copy)]
@@ -9,34 +10,20 @@ pub struct Span {
     pub to: usize,
 }
 
-// The index of the first byte from `at` on that is no space, or the end.
-fn skip(s: &[u8], at: usize) -> usize
-    requires { at ≤ length s.now }
-    ensures { Skipped s.now at result }
+// How many spaces stand in front.
+fn spaces(t: &[u8]) -> usize
+    ensures value { result ≡ position_or_len (λ b. not (eqb b 32)) t.now }
+    ensures upper_bound { result ≤ length t.now }
 {
-    let mut i = at;
-    while i < s.len() {
-        if s[i] != b' ' {
-            return i;
-        }
-        i += 1;
-    }
-    i
+    t.iter().position(|b| *b != b' ').unwrap_or(t.len())
 }
 
-// The index of the first space from `at` on, or the end.
-fn end(s: &[u8], at: usize) -> usize
-    requires { at ≤ length s.now }
-    ensures { Ended s.now at result }
+// How many bytes stand in front of the first space.
+fn until_space(t: &[u8]) -> usize
+    ensures value { result ≡ position_or_len (λ b. eqb b 32) t.now }
+    ensures upper_bound { result ≤ length t.now }
 {
-    let mut i = at;
-    while i < s.len() {
-        if s[i] == b' ' {
-            return i;
-        }
-        i += 1;
-    }
-    i
+    t.iter().position(|b| *b == b' ').unwrap_or(t.len())
 }
 
 // The next field from `at` on, empty where none is left.
@@ -44,7 +31,7 @@ pub fn next(s: &[u8], at: usize) -> Span
     requires { at ≤ length s.now }
     ensures { Field s.now at result }
 {
-    let from = skip(s, at);
-    let to = end(s, from);
+    let from = at + spaces(&s[at..]);
+    let to = from + until_space(&s[from..]);
     Span { from, to }
 }

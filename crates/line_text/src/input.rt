@@ -64,13 +64,17 @@ pub fn fed(block: &[u8], from: usize, line: &mut [u8], out: &mut [u8], start: St
     ensures from_lt_at { from < result.at }
 {
     let mut s = start;
-    let mut i = from;
-    while i < block.len() {
+    for i in from..block.len() {
         s = taken(line, out, s, block[i]);
-        i += 1;
         if out.len() - 156 < s.waiting {
-            break;
+            return Pause {
+                at: i + 1,
+                state: s,
+            };
         }
     }
-    Pause { at: i, state: s }
+    Pause {
+        at: block.len(),
+        state: s,
+    }
 }

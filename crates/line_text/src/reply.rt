@@ -3,17 +3,12 @@ ghost use Rattle.std.specs.Prelude.{◌≡◌, ◌+◌, ◌≤◌, length, take}
 ghost use Rattle.line_text.specs.Texts.{Put, trimmed, reply_to, line_reply};
 
 use crate::{call, text};
-use call::Reading;
 
-// The line's length without a carriage return at its end.
-fn trimmed_length(s: &[u8]) -> usize
+// The line's length without a carriage return at its end. No slice: no contract fixes the address of one, and each has one result.
+pub fn trimmed_length(s: &[u8]) -> usize
     ensures { (result ≤ length s.now) × (take result s.now ≡ trimmed s.now) }
 {
-    let n = s.len();
-    if n == 0 {
-        return 0;
-    }
-    if s[n - 1] == b'\r' { n - 1 } else { n }
+    s.strip_suffix(b"\r").unwrap_or(s).len()
 }
 
 // The reply to a whole line.
@@ -25,14 +20,11 @@ fn put_reply(s: &[u8], out: &mut [u8], at: usize) -> usize
     let n = trimmed_length(s);
     let mut a = [0.0f64; 44];
     match call::read(&s[..n], &mut a) {
-        Reading::Call(c) => {
-            let count = c.count;
-            let method = c.method;
-            let tolerances = c.tolerances;
-            let outcome = roots::search(&a[..count], method, tolerances, c.limit);
+        Ok(c) => {
+            let outcome = roots::search(&a[..c.count], c.method, c.tolerances, c.limit);
             text::put_outcome(out, at, outcome)
         }
-        Reading::Wrong(why) => text::put_fault(out, at, why),
+        Err(why) => text::put_fault(out, at, why),
     }
 }
 

@@ -1,7 +1,7 @@
 // Answers as text, put one after the other into a buffer.
-ghost use Rattle.std.specs.Prelude.{◌≡◌, [], ◌∷◌, ◌+◌, ◌≤◌, ◌<◌, length};
-ghost use Rattle.numerical.specs.Answers.{kind_of, numbers_of};
-ghost use Rattle.line_text.specs.Texts.{Put, decimal_field, double_field, numbers_text, progress_text, text_of, fault_text};
+ghost use Rattle.std.specs.Prelude.{◌≡◌, [], ◌∷◌, ◌+◌, ◌*◌, ◌≤◌, ◌<◌, length};
+ghost use Rattle.numerical.specs.Answers.{numbers_of};
+ghost use Rattle.line_text.specs.Texts.{Put, decimal_field, hex_field, double_field, numbers_text, progress_text, text_of, fault_text};
 
 use crate::call::Fault;
 use numerical::{Answer, Outcome, Progress};
@@ -11,12 +11,9 @@ pub fn put(out: &mut [u8], at: usize, t: &[u8]) -> usize
     requires { at + length t.now ≤ length out.old }
     ensures { Put out.old at t.now out.new result }
 {
-    let mut i = 0;
-    while i < t.len() {
-        out[at + i] = t[i];
-        i += 1;
-    }
-    at + i
+    let end = at + t.len();
+    out[at..end].copy_from_slice(t);
+    end
 }
 
 // One byte.
@@ -40,31 +37,38 @@ pub fn put_decimal(out: &mut [u8], at: usize, n: u64, after: u8) -> usize
     put_byte(out, p, after)
 }
 
+// A number of 64 bits in 16 hexadecimal digits, and a byte after it.
+pub fn put_hex(out: &mut [u8], at: usize, n: u64, after: u8) -> usize
+    requires { at + 17 ≤ length out.old }
+    ensures put { Put out.old at (hex_field n after) out.new result }
+    ensures value { result ≡ at + 17 }
+{
+    let mut digits = [0u8; 16];
+    let k = io::hex(n, 16, &mut digits);
+    let p = put(out, at, &digits[..k]);
+    put_byte(out, p, after)
+}
+
 // The 16 hexadecimal digits of a double's bits, and a space.
 pub fn put_double(out: &mut [u8], at: usize, x: f64) -> usize
     requires { at + 17 ≤ length out.old }
     ensures put { Put out.old at (double_field x) out.new result }
     ensures value { result ≡ at + 17 }
 {
-    let mut digits = [0u8; 16];
-    let k = io::hex(doubles::pattern(x), 16, &mut digits);
-    let p = put(out, at, &digits[..k]);
-    put_byte(out, p, b' ')
+    put_hex(out, at, doubles::pattern(x), b' ')
 }
 
-// The kind of an answer: 0 by value, 1 by width, otherwise 10 plus the refusal's number.
-fn kind(answer: Answer) -> u64
-    ensures { result ≡ kind_of answer }
+// Doubles, one after the other.
+pub fn put_doubles(out: &mut [u8], at: usize, numbers: &[f64]) -> usize
+    requires { at + 17 * length numbers.now ≤ length out.old }
+    ensures put { Put out.old at (numbers_text numbers.now) out.new result }
+    ensures value { result ≡ at + 17 * length numbers.now }
 {
-    match answer {
-        Answer::ByValue { root: _, value: _ } => 0,
-        Answer::ByWidth {
-            root: _,
-            p: _,
-            q: _,
-        } => 1,
-        Answer::Refused(number) => 10 + number as u64,
+    let mut p = at;
+    for x in numbers {
+        p = put_double(out, p, *x);
     }
+    p
 }
 
 // The numbers that an answer carries.
@@ -74,15 +78,8 @@ fn put_numbers(out: &mut [u8], at: usize, answer: Answer) -> usize
     ensures upper_bound { result ≤ at + 51 }
 {
     match answer {
-        Answer::ByValue { root, value } => {
-            let i = put_double(out, at, root);
-            put_double(out, i, value)
-        }
-        Answer::ByWidth { root, p, q } => {
-            let i = put_double(out, at, root);
-            let j = put_double(out, i, p);
-            put_double(out, j, q)
-        }
+        Answer::ByValue { root, value } => put_doubles(out, at, &[root, value]),
+        Answer::ByWidth { root, p, q } => put_doubles(out, at, &[root, p, q]),
         Answer::Refused(_) => at,
     }
 }
@@ -105,11 +102,9 @@ pub fn put_outcome(out: &mut [u8], at: usize, outcome: Outcome) -> usize
     ensures put { Put out.old at (text_of outcome) out.new result }
     ensures upper_bound { result ≤ at + 156 }
 {
-    let answer = outcome.answer;
-    let progress = outcome.progress;
-    let i = put_decimal(out, at, kind(answer), b' ');
-    let j = put_numbers(out, i, answer);
-    put_progress(out, j, progress)
+    let i = put_decimal(out, at, outcome.answer.kind(), b' ');
+    let j = put_numbers(out, i, outcome.answer);
+    put_progress(out, j, outcome.progress)
 }
 
 // A line for what is not a call.
@@ -118,12 +113,5 @@ pub fn put_fault(out: &mut [u8], at: usize, why: Fault) -> usize
     ensures put { Put out.old at (fault_text why) out.new result }
     ensures upper_bound { result ≤ at + 156 }
 {
-    match why {
-        Fault::Empty => put(out, at, b"error empty\n"),
-        Fault::Method => put(out, at, b"error method\n"),
-        Fault::Count => put(out, at, b"error count\n"),
-        Fault::Number => put(out, at, b"error number\n"),
-        Fault::Limit => put(out, at, b"error limit\n"),
-        Fault::Trailing => put(out, at, b"error trailing\n"),
-    }
+    put(out, at, why.text())
 }

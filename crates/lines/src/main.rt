@@ -2,101 +2,82 @@
 
 #![tactic(auto)]
 
+ghost use Rattle.std.specs.Prelude.{◌≡◌};
 ghost use Rattle.line_text.specs.Inputs.{Idle, Begun};
 
 use line_text::input::State;
 use std::io::{Read, Stdin, Stdout, Write};
 
-// Where things stand between two blocks, and whether to go on.
-#[derive(Clone, Copy)]
-struct Turn {
+// The line that has begun and the replies, in their buffers. Between two blocks no reply waits.
+#[derive(Drop)]
+struct Desk {
+    line: [u8; 1024],
+    out: [u8; 65536],
     state: State,
-    is_open: bool,
+    ghost idle: { Idle line out state },
 }
 
-// Writes replies, and tells whether all of them could be written.
-fn written(mut output: Stdout, replies: &[u8]) -> bool {
-    output.write_all(replies).is_ok()
-}
-
-// Answers the lines of a block. Each time the replies have filled their buffer they are written.
-fn answered(output: Stdout, block: &[u8], line: &mut [u8], out: &mut [u8], start: State) -> Turn
-    requires { Idle line.old out.old start }
-    ensures idle { Idle line.new out.new result.state }
-    ensures begun { Begun block.now line.old start line.new result.is_open result.state }
-{
-    let mut s = start;
-    let mut at = 0;
-    while at < block.len() {
-        let p = line_text::input::fed(block, at, line, out, s);
-        let waiting = p.state.waiting;
-        let is_written = written(output, &out[..waiting]);
-        s = State {
-            kept: p.state.kept,
-            is_long: p.state.is_long,
-            waiting: 0,
-        };
-        if !is_written {
-            return Turn {
-                state: s,
-                is_open: false,
+impl Desk {
+    // Answers the lines of a block, and tells whether all replies could be written: they are, each time they have filled their buffer.
+    fn answer(&mut self, mut output: Stdout, block: &[u8]) -> bool
+        ensures { Begun block.now self.old.line self.old.state self.new.line result self.new.state }
+    {
+        let mut at = 0;
+        while at < block.len() {
+            let p = line_text::input::fed(block, at, &mut self.line, &mut self.out, self.state);
+            self.state = State {
+                waiting: 0,
+                ..p.state
             };
+            if output.write_all(&self.out[..p.state.waiting]).is_err() {
+                return false;
+            }
+            at = p.at;
         }
-        at = p.at;
+        true
     }
-    Turn {
-        state: s,
-        is_open: true,
+
+    // At the input's end: the last line may lack its line feed.
+    fn close(&mut self, mut output: Stdout) {
+        let kept = self.state.kept;
+        if 0 < kept {
+            let end = line_text::reply::put_line(
+                &self.line[..kept],
+                self.state.is_long,
+                &mut self.out,
+                0,
+            );
+            let _ = output.write_all(&self.out[..end]);
+        }
+    }
+
+    // Reads a block, of as many bytes as have come, answers its lines, and tells whether to go on. A read that fails counts as
+    // the input's end.
+    fn read_block(&mut self, mut input: Stdin, output: Stdout) -> bool {
+        let mut block = io::large_buffer();
+        let n = input.read(&mut block).unwrap_or(0);
+        if n == 0 {
+            self.close(output);
+            return false;
+        }
+        self.answer(output, &block[..n])
     }
 }
 
-// At the input's end: the last line may lack its line feed.
-fn closed(output: Stdout, line: &[u8], out: &mut [u8], s: State) -> Turn
-    requires { Idle line.now out.old s }
-    ensures { Idle line.now out.new result.state }
-{
-    let kept = s.kept;
-    if 0 < kept {
-        let end = line_text::reply::put_line(&line[..kept], s.is_long, out, 0);
-        written(output, &out[..end]);
-    }
-    Turn {
-        state: s,
-        is_open: false,
-    }
-}
-
-// Reads a block, of as many bytes as have come, and answers its lines. A read that fails counts as the input's end.
-fn read_block(mut input: Stdin, output: Stdout, line: &mut [u8], out: &mut [u8], s: State) -> Turn
-    requires { Idle line.old out.old s }
-    ensures { Idle line.new out.new result.state }
-{
-    let mut block = io::large_buffer();
-    let n = input.read(&mut block).unwrap_or(0);
-    if n == 0 {
-        return closed(output, line, out, s);
-    }
-    answered(output, &block[..n], line, out, s)
-}
-
-// A proved loop has to end, and nothing says that the input does: so the turns are counted down, from a number that no
-// run uses up.
+// A proved loop has to end, and nothing says that the input does: so the turns are counted, up to a number that no run reaches.
 fn main(rt: HostRuntime) {
-    let input = rt.stdin();
-    let output = rt.stdout();
-    let mut line = [0u8; 1024];
-    let mut out = io::large_buffer();
-    let mut s = State {
-        kept: 0,
-        is_long: false,
-        waiting: 0,
+    let mut desk = Desk {
+        line: [0; 1024],
+        out: io::large_buffer(),
+        state: State {
+            kept: 0,
+            is_long: false,
+            waiting: 0,
+        },
     };
-    let mut is_open = true;
-    let mut turns = u64::MAX;
-    while turns > 0 && is_open {
-        let t = read_block(input, output, &mut line, &mut out, s);
-        s = t.state;
-        is_open = t.is_open;
-        turns -= 1;
+    for _ in 0..u64::MAX {
+        if !desk.read_block(rt.stdin(), rt.stdout()) {
+            break;
+        }
     }
 }

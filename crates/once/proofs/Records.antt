@@ -1,10 +1,14 @@
 -- Each public function of `records`: its contract allows one result, and one last value of its buffer.
 use Rattle.std.specs.Prelude.{ℕ, List}
 use Rattle.std.proofs.Common.{sym, ◌∙◌}
+use Rattle.records.proofs.Refusal.number.Reads as number-reads
 use Rattle.records.proofs.read.Reads as read-reads
 use Rattle.records.proofs.write.Reads as write-reads
 use Rattle.once.specs.One.{One, Last}
 use Rattle.once.proofs.Fixed.{fixed}
+
+pub number_once : One number-reads.Learnt
+number_once = fixed _ _
 
 pub read_once : One read-reads.Learnt
 read_once = fixed _ _

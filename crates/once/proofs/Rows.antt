@@ -8,7 +8,7 @@ use Rattle.rows.proofs.PutLaws.{put_fixed}
 use Rattle.once.specs.One.{One, Last}
 
 pub take_once : One take-reads.Learnt
-take_once k a x y e f p q = taken_fixed _ _ x y p q
+take_once k a x y e f p q = taken_fixed a.0.now a.1.0 x y p q
 
 -- where it ends, then the buffer `out`, parameter 1 counted from 0
 pub put_once : One put_reads.Learnt

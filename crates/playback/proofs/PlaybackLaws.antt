@@ -1,7 +1,7 @@
 -- How a playback goes on over the bytes, record by record.
 use Prim.Native.Nat.{ℕ, zero, suc, ◌+◌, ◌-◌, ◌≤◌, ◌<◌}
 use Rattle.std.proofs.Common.{add-one, arith, ◌∙◌, drop-drop, drop-cons, eq-eqb, ne_eqb}
-use Rattle.std.specs.Prelude.{cond, ◌≡◌, eqb, drop, get_or, Float}
+use Rattle.std.specs.Prelude.{cond, ◌≡◌, eqb, drop, get_or, Float, Option, None, Some, Result, Ok, Err}
 use mathlib.Core.List.{List, [], ◌∷◌, ◌++◌}
 use Rattle.std.proofs.Math.Path.{refl, ap, sym}
 use Rattle.std.proofs.Math.ListN.{length, length-drop}
@@ -13,35 +13,20 @@ use Rattle.numerical.specs.declared.Answer.TheVariants.{ByValue, ByWidth, Refuse
 use Rattle.numerical.specs.declared.Outcome.{Outcome}
 use Rattle.simple_convergency.specs.Stop.{most_coefficients}
 use Rattle.records.specs.Records.{bits_of, reading_of}
-use Rattle.records.proofs.PrefixLaws.{bytes_hold}
+use Rattle.records.proofs.PrefixLaws.{bytes_hold, refused_eleven}
 use Rattle.records.specs.ReadingLaws.{tail}
 use Rattle.records.proofs.ReadingLaws.{tail_is, read_length, read_within, read_few}
-use Rattle.records.specs.declared.Record.{Record}
 use Rattle.records.specs.declared.Reading.{Reading}
-use Rattle.records.specs.declared.Verdict.{Verdict}
-use Rattle.records.specs.declared.Verdict.TheVariants as verdict
-use Rattle.playback.specs.Playback.{in_order, field_at, field_number, fields_of, difference_in, first_difference, answer_now, compared_in, Series, none, led, onward, series_within, series_in, settled, verdict_over, played_from, played_back}
-use Rattle.playback.specs.declared.Field.{Field}
-use Rattle.playback.specs.declared.Field.TheVariants.{Mark}
-use Rattle.playback.specs.declared.Comparison.{Comparison}
-use Rattle.playback.specs.declared.Comparison.TheVariants.{Same, Differs}
+use Rattle.records.specs.declared.Refusal.{Refusal}
+use Rattle.records.specs.declared.Refusal.TheVariants.{NoRecord}
+use Rattle.playback.specs.Playback.{in_order, field_at, field_number, fields_of, difference_in, first_difference, compared_in, Series, none, led, onward, series_within, series_in, settled, verdict_over, played_from, played_back}
+use Rattle.playback.specs.declared.Field.TheVariants.{Kind}
+use Rattle.playback.specs.declared.Difference.{Difference}
 use Rattle.playback.specs.declared.Playback.{Playback}
 use Rattle.playback.specs.declared.Playback.TheVariants as playback
 use Rattle.playback.specs.PlaybackLaws.{Comparing, Playing}
 
 -- ---- field by field
-
--- behind the first seven stands the mark
-pub last_field : (place : ℕ) → ¬ (place ≡ 0) → ¬ (place ≡ 1) → ¬ (place ≡ 2) → ¬ (place ≡ 3) → ¬ (place ≡ 4) → ¬ (place ≡ 5) → ¬ (place ≡ 6) → Mark ≡ field_at place
-last_field zero a b c d e f g = absurd (a refl)
-last_field (suc zero) a b c d e f g = absurd (b refl)
-last_field (suc (suc zero)) a b c d e f g = absurd (c refl)
-last_field (suc (suc (suc zero))) a b c d e f g = absurd (d refl)
-last_field (suc (suc (suc (suc zero)))) a b c d e f g = absurd (e refl)
-last_field (suc (suc (suc (suc (suc zero))))) a b c d e f g = absurd (f refl)
-last_field (suc (suc (suc (suc (suc (suc zero)))))) a b c d e f g = absurd (g refl)
-last_field (suc (suc (suc (suc (suc (suc (suc zero))))))) a b c d e f g = refl
-last_field (suc (suc (suc (suc (suc (suc (suc (suc n)))))))) a b c d e f g = refl
 
 -- a field's number is its place in record order, from 1 on
 pub numbered_in_order : (place : ℕ) → place < 8 → field_number (field_at place) ≡ place + 1
@@ -80,39 +65,35 @@ unfolding first_difference
 compare_starts recorded present = record { count = omega arith; is = refl }
 
 module _ (recorded present : List ℕ) (l : length recorded ≡ 8) (m : length present ≡ 8) {i : ℕ} (g : Comparing recorded present i) (h : i < 8) where
-  one_off : difference_in (drop i in_order) (drop i recorded) (drop i present) ≡ cond (eqb (get_or recorded i 0) (get_or present i 0)) (difference_in (drop (i + 1) in_order) (drop (i + 1) recorded) (drop (i + 1) present)) (Differs (field_at i) (get_or recorded i 0) (get_or present i 0))
-  one_off = rw (add-one i, drop-cons in_order i Mark h, drop-cons recorded i 0 (omega (arith, l, h)), drop-cons present i 0 (omega (arith, m, h))) refl
+  one_off : difference_in (drop i in_order) (drop i recorded) (drop i present) ≡ cond (eqb (get_or recorded i 0) (get_or present i 0)) (difference_in (drop (i + 1) in_order) (drop (i + 1) recorded) (drop (i + 1) present)) (Some (record { field = get_or in_order i Kind; recorded = get_or recorded i 0; present = get_or present i 0 }))
+  one_off = rw (add-one i, drop-cons in_order i Kind h, drop-cons recorded i 0 (omega (arith, l, h)), drop-cons present i 0 (omega (arith, m, h))) refl
 
   pub compare_on : get_or recorded i 0 ≡ get_or present i 0 → Comparing recorded present (i + 1)
   compare_on e = record { count = omega arith; is = sym (one_off ∙ rw (eq-eqb (get_or recorded i 0) (get_or present i 0) e) refl) ∙ g.is }
 
-  pub compare_differs : {f : Field} → ¬ (get_or recorded i 0 ≡ get_or present i 0) → f ≡ field_at i → Differs f (get_or recorded i 0) (get_or present i 0) ≡ first_difference recorded present
-  compare_differs e q = ap (λ (k : Field). Differs k (get_or recorded i 0) (get_or present i 0)) q ∙ sym (one_off ∙ rw (ne_eqb (get_or recorded i 0) (get_or present i 0) e) refl) ∙ g.is
+  pub compare_differs : ¬ (get_or recorded i 0 ≡ get_or present i 0) → Some (record { field = get_or in_order i Kind; recorded = get_or recorded i 0; present = get_or present i 0 }) ≡ first_difference recorded present
+  compare_differs e = sym (one_off ∙ rw (ne_eqb (get_or recorded i 0) (get_or present i 0) e) refl) ∙ g.is
 
-pub compare_ends : (recorded present : List ℕ) {i : ℕ} → Comparing recorded present i → 8 ≤ i → Same ≡ first_difference recorded present
+pub compare_ends : (recorded present : List ℕ) {i : ℕ} → Comparing recorded present i → 8 ≤ i → None ≡ first_difference recorded present
 compare_ends recorded present {i} g h = ap (λ (j : ℕ). difference_in (drop j in_order) (drop j recorded) (drop j present)) (let c = g.count in let z : 8 ≡ i = omega arith in z) ∙ g.is
-
-pub compared_is : (r : Record) {c : Comparison} {x y : List ℕ} {o : Outcome} → o ≡ answer_now r → x ≡ fields_of r.outcome → y ≡ fields_of o → c ≡ first_difference x y → c ≡ compared_in r
-unfolding compared_in
-compared_is r e f g h = rw (h, f, g, e) refl
 
 -- ---- the records in bytes
 
 -- more room for records than bytes changes nothing
 module _ where
-  by_verdict : (bytes : List ℕ) (f g : ℕ → Series) → ((n : ℕ) → (reading_of bytes).verdict ≡ verdict.Bytes n → f n ≡ g n) → onward bytes (reading_of bytes).verdict f ≡ onward bytes (reading_of bytes).verdict g
-  by_verdict bytes f g h = go (reading_of bytes).verdict refl
+  by_reading : (bytes : List ℕ) (f g : Reading → Series) → ((r : Reading) → reading_of bytes ≡ Ok r → f r ≡ g r) → onward bytes (reading_of bytes) f ≡ onward bytes (reading_of bytes) g
+  by_reading bytes f g h = go (reading_of bytes) refl
     where
-      go : (v : Verdict) → (reading_of bytes).verdict ≡ v → onward bytes v f ≡ onward bytes v g
-      go (verdict.Bytes n) e = h n e
-      go (verdict.Refused n) e = refl
+      go : (v : Result Reading Refusal) → reading_of bytes ≡ v → onward bytes v f ≡ onward bytes v g
+      go (Ok r) e = h r e
+      go (Err refusal) e = refl
 
-  nothing_read : (bytes : List ℕ) (f : ℕ → Series) → length bytes ≤ 0 → none bytes ≡ onward bytes (reading_of bytes).verdict f
-  nothing_read bytes f h = go (reading_of bytes).verdict refl
+  nothing_read : (bytes : List ℕ) (f : Reading → Series) → length bytes ≤ 0 → none bytes ≡ onward bytes (reading_of bytes) f
+  nothing_read bytes f h = go (reading_of bytes) refl
     where
-      go : (v : Verdict) → (reading_of bytes).verdict ≡ v → none bytes ≡ onward bytes v f
-      go (verdict.Bytes n) e = absurd (let z = (bytes_hold bytes e).1.some in let y = read_within bytes e in omega arith)
-      go (verdict.Refused n) e = refl
+      go : (v : Result Reading Refusal) → reading_of bytes ≡ v → none bytes ≡ onward bytes v f
+      go (Ok r) e = absurd (let z = (bytes_hold bytes e).1.some in let y = read_within bytes e in omega arith)
+      go (Err refusal) e = refl
 
   enough : (j k : ℕ) (bytes : List ℕ) → length bytes ≤ j → length bytes ≤ k → series_within j bytes ≡ series_within k bytes
   unfolding series_within
@@ -120,25 +101,25 @@ module _ where
   enough zero (suc k) bytes a b = nothing_read bytes _ a
   enough (suc j) zero bytes a b = sym (nothing_read bytes _ b)
   enough (suc j) (suc k) bytes a b =
-      by_verdict bytes _ _
-      (λ n e. ap (led (reading_of bytes).content) (enough j k (drop n bytes) (shorter n e j a) (shorter n e k b)))
+      by_reading bytes _ _
+      (λ r e. ap (led r.content) (enough j k (drop r.length bytes) (shorter r e j a) (shorter r e k b)))
     where
-      shorter : (n : ℕ) → (reading_of bytes).verdict ≡ verdict.Bytes n → (k : ℕ) → length bytes ≤ suc k → length (drop n bytes) ≤ k
-      shorter n e k h = rw length-drop (let z = (bytes_hold bytes e).1.some in omega arith)
+      shorter : (r : Reading) → reading_of bytes ≡ Ok r → (k : ℕ) → length bytes ≤ suc k → length (drop r.length bytes) ≤ k
+      shorter r e k h = rw length-drop (let z = (bytes_hold bytes e).1.some in omega arith)
+
+  one_more : (bytes : List ℕ) {v : Result Reading Refusal} → reading_of bytes ≡ v → series_in bytes ≡ onward bytes v (λ r. led r.content (series_within (length bytes) (drop r.length bytes)))
+  unfolding series_in series_within
+  one_more bytes e =
+      enough (length bytes) (suc (length bytes)) bytes (omega arith) (omega arith)
+      ∙ ap (λ (v : Result Reading Refusal). onward bytes v (λ r. led r.content (series_within (length bytes) (drop r.length bytes)))) e
 
 -- the record at the start, and then those behind it
-pub series_first : (bytes : List ℕ) {n : ℕ} → (reading_of bytes).verdict ≡ verdict.Bytes n → series_in bytes ≡ led (reading_of bytes).content (series_in (drop n bytes))
-unfolding series_in series_within
-series_first bytes {n} e =
-    enough (length bytes) (suc (length bytes)) bytes (omega arith) (omega arith)
-    ∙ ap (λ (v : Verdict). onward bytes v (λ m. led (reading_of bytes).content (series_within (length bytes) (drop m bytes)))) e
-    ∙ ap (led (reading_of bytes).content) (enough (length bytes) (length (drop n bytes)) (drop n bytes) (rw length-drop (omega arith)) (omega arith))
+pub series_first : (bytes : List ℕ) {r : Reading} → reading_of bytes ≡ Ok r → series_in bytes ≡ led r.content (series_in (drop r.length bytes))
+unfolding series_in
+series_first bytes {r} e = one_more bytes e ∙ ap (led r.content) (enough (length bytes) (length (drop r.length bytes)) (drop r.length bytes) (rw length-drop (omega arith)) (omega arith))
 
-pub series_none : (bytes : List ℕ) {n : ℕ} → (reading_of bytes).verdict ≡ verdict.Refused n → series_in bytes ≡ none bytes
-unfolding series_in series_within
-series_none bytes {n} e =
-    enough (length bytes) (suc (length bytes)) bytes (omega arith) (omega arith)
-    ∙ ap (λ (v : Verdict). onward bytes v (λ m. led (reading_of bytes).content (series_within (length bytes) (drop m bytes)))) e
+pub series_none : (bytes : List ℕ) {refusal : Refusal} → reading_of bytes ≡ Err refusal → series_in bytes ≡ none bytes
+series_none bytes e = one_more bytes e
 
 -- ---- the verdict, record by record
 
@@ -151,45 +132,45 @@ module _ (count offset : ℕ) (bytes : List ℕ) where
       go [] h = refl
       go (b ∷ bytes) h = absurd (omega arith)
 
-  pub played_refused : {n : ℕ} → 0 < length bytes → (reading_of bytes).verdict ≡ verdict.Refused n → played_from count offset bytes ≡ playback.Refused 11 count offset
+  pub played_refused : {refusal : Refusal} → 0 < length bytes → reading_of bytes ≡ Err refusal → played_from count offset bytes ≡ playback.Refused NoRecord count offset
   unfolding played_from
   played_refused h e = ap (λ (s : Series). verdict_over count offset s.records s.behind) (series_none bytes e) ∙ go bytes h
     where
-      go : (bytes : List ℕ) → 0 < length bytes → verdict_over count offset [] bytes ≡ playback.Refused 11 count offset
+      go : (bytes : List ℕ) → 0 < length bytes → verdict_over count offset [] bytes ≡ playback.Refused NoRecord count offset
       go [] h = absurd (omega arith)
       go (b ∷ bytes) h = refl
 
-  module _ {n : ℕ} (e : (reading_of bytes).verdict ≡ verdict.Bytes n) where
-    one_played : played_from count offset bytes ≡ settled count offset (compared_in (reading_of bytes).content) (played_from (count + 1) (offset + n) (drop n bytes))
+  module _ {r : Reading} (e : reading_of bytes ≡ Ok r) where
+    one_played : played_from count offset bytes ≡ settled count offset (compared_in r.content) (played_from (count + 1) (offset + r.length) (drop r.length bytes))
     unfolding played_from
     one_played =
         ap (λ (s : Series). verdict_over count offset s.records s.behind) (series_first bytes e)
-        ∙ ap (λ (k : ℕ). settled count offset (compared_in (reading_of bytes).content) (verdict_over (count + 1) (offset + k) (series_in (drop n bytes)).records (series_in (drop n bytes)).behind)) (read_length bytes e)
+        ∙ ap (λ (k : ℕ). settled count offset (compared_in r.content) (verdict_over (count + 1) (offset + k) (series_in (drop r.length bytes)).records (series_in (drop r.length bytes)).behind)) (read_length bytes e)
 
-    pub played_differs : {f : Field} {x y : ℕ} → compared_in (reading_of bytes).content ≡ Differs f x y → played_from count offset bytes ≡ playback.Differs count offset f x y
-    played_differs q = one_played ∙ ap (λ (c : Comparison). settled count offset c (played_from (count + 1) (offset + n) (drop n bytes))) q
+    pub played_differs : {d : Difference} → compared_in r.content ≡ Some d → played_from count offset bytes ≡ playback.Differs count offset d
+    played_differs q = one_played ∙ ap (λ (c : Option Difference). settled count offset c (played_from (count + 1) (offset + r.length) (drop r.length bytes))) q
 
-    pub played_on : compared_in (reading_of bytes).content ≡ Same → played_from count offset bytes ≡ played_from (count + 1) (offset + n) (drop n bytes)
-    played_on q = one_played ∙ ap (λ (c : Comparison). settled count offset c (played_from (count + 1) (offset + n) (drop n bytes))) q
+    pub played_on : compared_in r.content ≡ None → played_from count offset bytes ≡ played_from (count + 1) (offset + r.length) (drop r.length bytes)
+    played_on q = one_played ∙ ap (λ (c : Option Difference). settled count offset c (played_from (count + 1) (offset + r.length) (drop r.length bytes))) q
 
 -- ---- what holds of every verdict
 
 -- record by record: what holds where no bytes are left, where the record at the start is refused or differs, and where it agrees and the same holds behind it
 module _ (P : ℕ → ℕ → List ℕ → Playback → Type 0)
     (none_left : (c k : ℕ) (s : List ℕ) → length s ≤ 0 → P c k s (played_from c k s))
-    (is_refused : (c k : ℕ) (s : List ℕ) (n : ℕ) → 0 < length s → (reading_of s).verdict ≡ verdict.Refused n → P c k s (played_from c k s))
-    (one-differs : (c k : ℕ) (s : List ℕ) (n : ℕ) → (reading_of s).verdict ≡ verdict.Bytes n → (f : Field) (x y : ℕ) → compared_in (reading_of s).content ≡ Differs f x y → P c k s (played_from c k s))
-    (one-agrees : (c k : ℕ) (s : List ℕ) (n : ℕ) → (reading_of s).verdict ≡ verdict.Bytes n → compared_in (reading_of s).content ≡ Same → P (c + 1) (k + n) (drop n s) (played_from (c + 1) (k + n) (drop n s)) → P c k s (played_from c k s)) where
+    (is_refused : (c k : ℕ) (s : List ℕ) (refusal : Refusal) → 0 < length s → reading_of s ≡ Err refusal → P c k s (played_from c k s))
+    (one-differs : (c k : ℕ) (s : List ℕ) (r : Reading) → reading_of s ≡ Ok r → (d : Difference) → compared_in r.content ≡ Some d → P c k s (played_from c k s))
+    (one-agrees : (c k : ℕ) (s : List ℕ) (r : Reading) → reading_of s ≡ Ok r → compared_in r.content ≡ None → P (c + 1) (k + r.length) (drop r.length s) (played_from (c + 1) (k + r.length) (drop r.length s)) → P c k s (played_from c k s)) where
   by_first : (c k : ℕ) (s : List ℕ) → 0 < length s → ((n : ℕ) → 0 < n → P (c + 1) (k + n) (drop n s) (played_from (c + 1) (k + n) (drop n s))) → P c k s (played_from c k s)
-  by_first c k s h later = go (reading_of s).verdict refl
+  by_first c k s h later = go (reading_of s) refl
     where
-      go : (v : Verdict) → (reading_of s).verdict ≡ v → P c k s (played_from c k s)
-      go (verdict.Refused n) e = is_refused c k s n h e
-      go (verdict.Bytes n) e = by (compared_in (reading_of s).content) refl
+      go : (v : Result Reading Refusal) → reading_of s ≡ v → P c k s (played_from c k s)
+      go (Err refusal) e = is_refused c k s refusal h e
+      go (Ok r) e = by (compared_in r.content) refl
         where
-          by : (x : Comparison) → compared_in (reading_of s).content ≡ x → P c k s (played_from c k s)
-          by Same q = one-agrees c k s n e q (later n (bytes_hold s e).1.some)
-          by (Differs f x y) q = one-differs c k s n e f x y q
+          by : (x : Option Difference) → compared_in r.content ≡ x → P c k s (played_from c k s)
+          by None q = one-agrees c k s r e q (later r.length (bytes_hold s e).1.some)
+          by (Some d) q = one-differs c k s r e d q
 
   by_records_within : (m c k : ℕ) (s : List ℕ) → length s ≤ m → P c k s (played_from c k s)
   by_records_within zero c k s h = none_left c k s h
@@ -204,46 +185,45 @@ module _ (P : ℕ → ℕ → List ℕ → Playback → Type 0)
 pub play_starts : (bytes : List ℕ) → Playing bytes 0 0
 play_starts bytes = record { within = omega arith; few = omega arith; is = refl }
 
-module _ {bytes : List ℕ} {records at : ℕ} (g : Playing bytes records at) (h : at < length bytes) {b : Reading} (e : b ≡ reading_of (tail bytes at)) where
-  here : b ≡ reading_of (drop at bytes)
+module _ {bytes : List ℕ} {records at : ℕ} (g : Playing bytes records at) (h : at < length bytes) {v : Result Reading Refusal} (e : v ≡ reading_of (tail bytes at)) where
+  here : v ≡ reading_of (drop at bytes)
   here = rw (tail_is bytes at) at e
 
-  pub play_refused : {k : ℕ} → b.verdict ≡ verdict.Refused k → playback.Refused 11 records at ≡ played_back bytes
-  play_refused q = sym (played_refused records at (drop at bytes) (rw length-drop (omega arith)) (ap (λ (r : Reading). r.verdict) (sym here) ∙ q)) ∙ g.is
+  pub play_refused : {refusal : Refusal} → v ≡ Err refusal → playback.Refused refusal records at ≡ played_back bytes
+  play_refused {refusal} q =
+      let there : reading_of (drop at bytes) ≡ Err refusal = sym here ∙ q in
+      ap (λ (k : Refusal). playback.Refused k records at) (refused_eleven (drop at bytes) there) ∙ sym (played_refused records at (drop at bytes) (rw length-drop (omega arith)) there) ∙ g.is
 
-  module _ {n : ℕ} (q : b.verdict ≡ verdict.Bytes n) where
-    right : (reading_of (drop at bytes)).verdict ≡ verdict.Bytes n
-    right = ap (λ (r : Reading). r.verdict) (sym here) ∙ q
+  module _ {r : Reading} (q : v ≡ Ok r) where
+    right : reading_of (drop at bytes) ≡ Ok r
+    right = sym here ∙ q
 
-    pub play_few : b.content.count ≤ most_coefficients
-    play_few = rw here (read_few (drop at bytes) right)
+    pub play_few : r.content.count ≤ most_coefficients
+    play_few = read_few (drop at bytes) right
 
-    pub play_within : at + n ≤ length bytes
+    pub play_within : at + r.length ≤ length bytes
     play_within = let z = read_within (drop at bytes) right in let l = length-drop at bytes in omega arith
 
     -- it is no larger than the bytes' count, which fits its type
-    pub play_fits : {most : ℕ} → length bytes < most → at + n < most
+    pub play_fits : {most : ℕ} → length bytes < most → at + r.length < most
     play_fits l = let w = play_within in omega arith
 
-    some : 0 < n
+    some : 0 < r.length
     some = (bytes_hold (drop at bytes) right).1.some
 
-    pub play_less : length bytes - (at + n) < length bytes - at
+    pub play_less : length bytes - (at + r.length) < length bytes - at
     play_less = let z = some in let w = play_within in omega arith
 
-    module _ {c : Comparison} (k : c ≡ compared_in b.content) where
-      as_read : c ≡ compared_in (reading_of (drop at bytes)).content
-      as_read = k ∙ ap (λ (r : Reading). compared_in r.content) here
+    module _ {c : Option Difference} (k : c ≡ compared_in r.content) where
+      pub play_differs : {d : Difference} → c ≡ Some d → playback.Differs records at d ≡ played_back bytes
+      play_differs p = sym (played_differs records at (drop at bytes) right (sym k ∙ p)) ∙ g.is
 
-      pub play_differs : {f : Field} {x y : ℕ} → c ≡ Differs f x y → playback.Differs records at f x y ≡ played_back bytes
-      play_differs p = sym (played_differs records at (drop at bytes) right (sym as_read ∙ p)) ∙ g.is
-
-      pub play_on : c ≡ Same → Playing bytes (records + 1) (at + n)
+      pub play_on : c ≡ None → Playing bytes (records + 1) (at + r.length)
       play_on p =
           record {
             within = play_within;
             few = let z = some in let w = g.few in omega arith;
-            is = ap (played_from (records + 1) (at + n)) (sym (drop-drop n at bytes)) ∙ sym (played_on records at (drop at bytes) right (sym as_read ∙ p)) ∙ g.is;
+            is = ap (played_from (records + 1) (at + r.length)) (sym (drop-drop r.length at bytes)) ∙ sym (played_on records at (drop at bytes) right (sym k ∙ p)) ∙ g.is;
           }
 
 pub play_ends : {bytes : List ℕ} {records at : ℕ} → Playing bytes records at → length bytes ≤ at → playback.Agree records ≡ played_back bytes

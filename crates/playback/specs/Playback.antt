@@ -1,16 +1,16 @@
 -- Records played back: which records stand in bytes, what each one's call gives now, and the verdict. Definitions only.
-use Rattle.std.specs.Prelude.{ℕ, zero, suc, ◌+◌, cond, List, [], ◌∷◌, ◌++◌, eqb, length, take, drop, get_or}
+use Rattle.std.specs.Prelude.{ℕ, zero, suc, ◌+◌, cond, List, [], ◌∷◌, ◌++◌, Option, None, Some, Result, Ok, Err, eqb, length, take, drop, get_or}
 use Rattle.numerical.specs.Answers.{kind_of, numbers_of, padded, counts_of}
 use Rattle.numerical.specs.declared.Outcome.{Outcome}
 use Rattle.roots.specs.Calls.{answer}
 use Rattle.records.specs.Records.{bits_of, bytes_of, reading_of}
 use Rattle.records.specs.declared.Record.{Record}
-use Rattle.records.specs.declared.Verdict.{Verdict}
-use Rattle.records.specs.declared.Verdict.TheVariants as verdict
+use Rattle.records.specs.declared.Reading.{Reading}
+use Rattle.records.specs.declared.Refusal.{Refusal}
+use Rattle.records.specs.declared.Refusal.TheVariants.{NoRecord}
 use Rattle.playback.specs.declared.Field.{Field}
 use Rattle.playback.specs.declared.Field.TheVariants.{Kind, First, Second, Third, Steps, Values, Derivatives, Mark}
-use Rattle.playback.specs.declared.Comparison.{Comparison}
-use Rattle.playback.specs.declared.Comparison.TheVariants.{Same, Differs}
+use Rattle.playback.specs.declared.Difference.{Difference}
 use Rattle.playback.specs.declared.Playback.{Playback}
 use Rattle.playback.specs.declared.Playback.TheVariants as playback
 
@@ -40,13 +40,13 @@ fields_of o = kind_of o.answer ∷ (bits_of (padded (numbers_of o.answer)) ++ co
 -- ---- one record
 
 -- "the first field that differs"; "Fields compare as bits, in record order"
-abbrev pub difference_in : List Field → List ℕ → List ℕ → Comparison
-difference_in [] recorded present = Same
-difference_in (f ∷ fields) [] present = Same
-difference_in (f ∷ fields) (m ∷ recorded) [] = Same
-difference_in (f ∷ fields) (m ∷ recorded) (n ∷ present) = cond (eqb m n) (difference_in fields recorded present) (Differs f m n)
+abbrev pub difference_in : List Field → List ℕ → List ℕ → Option Difference
+difference_in [] recorded present = None
+difference_in (f ∷ fields) [] present = None
+difference_in (f ∷ fields) (m ∷ recorded) [] = None
+difference_in (f ∷ fields) (m ∷ recorded) (n ∷ present) = cond (eqb m n) (difference_in fields recorded present) (Some (record { field = f; recorded = m; present = n }))
 
-unfoldable pub first_difference : List ℕ → List ℕ → Comparison
+unfoldable pub first_difference : List ℕ → List ℕ → Option Difference
 first_difference recorded present = difference_in in_order recorded present
 
 -- "run each again": its call, as it stands
@@ -54,7 +54,7 @@ abbrev pub answer_now : Record → Outcome
 answer_now r = answer (take r.count r.coefficients) r.method r.tolerances r.limit
 
 -- "and compare"
-unfoldable pub compared_in : Record → Comparison
+unfoldable pub compared_in : Record → Option Difference
 compared_in r = first_difference (fields_of r.outcome) (fields_of (answer_now r))
 
 -- ---- the records in bytes
@@ -71,14 +71,14 @@ abbrev pub led : Record → Series → Series
 led r more = record { records = r ∷ more.records; behind = more.behind }
 
 -- the next record begins where this one ends
-abbrev pub onward : List ℕ → Verdict → (ℕ → Series) → Series
-onward bytes (verdict.Bytes n) next = next n
-onward bytes (verdict.Refused refusal) next = none bytes
+abbrev pub onward : List ℕ → Result Reading Refusal → (Reading → Series) → Series
+onward bytes (Ok reading) next = next reading
+onward bytes (Err refusal) next = none bytes
 
 -- at most k records
 unfoldable pub series_within : ℕ → List ℕ → Series
 series_within zero bytes = none bytes
-series_within (suc k) bytes = onward bytes (reading_of bytes).verdict (λ n. led (reading_of bytes).content (series_within k (drop n bytes)))
+series_within (suc k) bytes = onward bytes (reading_of bytes) (λ reading. led reading.content (series_within k (drop reading.length bytes)))
 
 -- a record has a byte at least, so there are no more records than bytes
 unfoldable pub series_in : List ℕ → Series
@@ -86,15 +86,15 @@ series_in bytes = series_within (length bytes) bytes
 
 -- ---- the verdict
 
-abbrev pub settled : ℕ → ℕ → Comparison → Playback → Playback
-settled count offset Same later = later
-settled count offset (Differs field recorded present) later = playback.Differs count offset field recorded present
+abbrev pub settled : ℕ → ℕ → Option Difference → Playback → Playback
+settled count offset None later = later
+settled count offset (Some difference) later = playback.Differs count offset difference
 
 -- behind `count` records that agree, of `offset` bytes: "the number of records that agree before the first that doesn't, with that one's byte offset
 -- and the first field that differs, or all agree"; "11 with the offset, if a bad record comes first"
 abbrev pub verdict_over : ℕ → ℕ → List Record → List ℕ → Playback
 verdict_over count offset [] [] = playback.Agree count
-verdict_over count offset [] (b ∷ behind) = playback.Refused 11 count offset
+verdict_over count offset [] (b ∷ behind) = playback.Refused NoRecord count offset
 verdict_over count offset (r ∷ more) behind = settled count offset (compared_in r) (verdict_over (count + 1) (offset + length (bytes_of r)) more behind)
 
 unfoldable pub played_from : ℕ → ℕ → List ℕ → Playback

@@ -1,18 +1,18 @@
 -- The theorems about what specs/Returned.antt defines.
 use Prim.Native.Nat.{ℕ, zero, suc, ◌≤◌, ◌<◌}
 use native.Mathlib.Omega.{arith}
-use Rattle.std.specs.Prelude.{List, ◌⊎◌, ◌≡◌, T, Float}
+use Rattle.std.specs.Prelude.{List, Option, None, Some, ◌⊎◌, ◌≡◌, T, Float}
 use Rattle.std.proofs.Math.Logic.{inl, inr}
 use Rattle.std.proofs.Math.Path.{refl}
 use Rattle.std.proofs.Common.{ap, sym, ◌∙◌, subst}
-use borrow.Author.Tests.{ne_eqb}
+use borrow.Author.Tests.{lt-ltb, le-ltb}
 use Rattle.std.specs.Float.{binary64}
 use Rattle.std.specs.Float.Ieee.{fits}
 use denote.Triple.Clauses.{AtExit}
 use contract.Lifetimes.{Lfts}
 use borrow.Fn.Kinds.{GoodsP, Dens, ended_of}
 use Rattle.doubles.proofs.Compare.{of_true}
-use Rattle.numerical.specs.Answers.{kind_of, numbers_of, refused_at_once}
+use Rattle.numerical.specs.Answers.{kind_of, numbers_of, padded, counts_of, refused_at_once}
 use Rattle.numerical.specs.declared.Answer.{Answer}
 use Rattle.numerical.specs.declared.Answer.TheVariants.{ByValue, ByWidth, Refused}
 use Rattle.numerical.specs.declared.Outcome.{Outcome}
@@ -24,13 +24,13 @@ use Rattle.roots.proofs.search_simple.Kinds as simple-kinds
 use Rattle.roots.proofs.search_simple.Reads as simple-reads
 use Rattle.roots.proofs.search_plain.Kinds as plain-kinds
 use Rattle.roots.proofs.search_plain.Reads as plain-reads
+use Rattle.records.specs.Records.{between}
 use Rattle.roots.specs.Calls.{starts_of, answer}
+use Rattle.roots.specs.Methods.{method_of}
 use Rattle.roots.specs.declared.Method.{Method}
 use Rattle.roots_c.proofs.roots_search.Kinds as c-kinds
 use Rattle.roots_c.proofs.roots_search.Reads as c-reads
-use Rattle.roots_c.specs.Flat.{chosen_by, outcome_of, padded, counts_of, flat_outcome, flat_kind, flat_numbers, flat_tallies}
-use Rattle.roots_c.specs.declared.Chosen.{Chosen}
-use Rattle.roots_c.specs.declared.Chosen.TheVariants.{Known, Unknown}
+use Rattle.roots_c.specs.Flat.{chosen_by, outcome_of, flat_outcome, flat_kind, flat_numbers, flat_tallies}
 use Rattle.roots.specs.declared.Method.TheVariants.{Brent, RegulaFalsi, Secant, NewtonRaphson, Polynom}
 use Rattle.promises.proofs.Demand1.{demand_1}
 use Rattle.promises.proofs.Demand2.{demand_2}
@@ -78,8 +78,8 @@ module _ (a : List Float) (method : ℕ) (first second value point : Float) (lim
   known_held m newton = (held.0, tt)
   known_held m polynom = (held.0, (held.1, tt))
 
-  known_chosen : {n : ℕ} (m : Method) → Numbered first second n m → chosen_by n first second ≡ Known m
-  unfolding chosen_by
+  known_chosen : {n : ℕ} (m : Method) → Numbered first second n m → chosen_by n first second ≡ Some m
+  unfolding chosen_by between method_of
   known_chosen m brent = refl
   known_chosen m illinois = refl
   known_chosen m secant = refl
@@ -87,13 +87,13 @@ module _ (a : List Float) (method : ℕ) (first second value point : Float) (lim
   known_chosen m polynom = refl
 
   -- a number above 5 is no method's
-  above_five : (n : ℕ) → 5 < n → chosen_by n first second ≡ Unknown
-  unfolding chosen_by
-  above_five n l = rw (ne_eqb n 1 (λ e. omega (arith, e, l)), ne_eqb n 2 (λ e. omega (arith, e, l)), ne_eqb n 3 (λ e. omega (arith, e, l)), ne_eqb n 4 (λ e. omega (arith, e, l)), ne_eqb n 5 (λ e. omega (arith, e, l))) refl
+  above_five : (n : ℕ) → 5 < n → chosen_by n first second ≡ None
+  unfolding chosen_by between method_of
+  above_five n l = rw (le-ltb n 1 (omega (arith, l)), lt-ltb 5 n l) refl
 
   -- a number is a method's, or none
-  each_number : (n : ℕ) → ((m : Method) × Numbered first second n m) ⊎ (NoMethod n × (chosen_by n first second ≡ Unknown))
-  unfolding chosen_by
+  each_number : (n : ℕ) → ((m : Method) × Numbered first second n m) ⊎ (NoMethod n × (chosen_by n first second ≡ None))
+  unfolding chosen_by between method_of
   each_number zero = inr (inl refl, refl)
   each_number (suc zero) = inl (_, brent)
   each_number (suc (suc zero)) = inl (_, illinois)
@@ -124,7 +124,7 @@ module _ (a : List Float) (method : ℕ) (first second value point : Float) (lim
       (kind : ℕ) (numbers : List Float) (tallies : List ℕ) → kind ≡ flat_kind a method first second value point limit → numbers ≡ flat_numbers a method first second value point limit → tallies ≡ flat_tallies a method first second value point limit →
       (m : Method) → Numbered first second method m → (o : Outcome) × Promised a m (tolerances_of value point) limit o × (kind ≡ kind_of o.answer) × (numbers ≡ padded (numbers_of o.answer)) × (tallies ≡ counts_of o.progress)
   told_known kind numbers tallies k n t m b =
-      let same : flat_outcome a method first second value point limit ≡ answer a m (tolerances_of value point) limit = ap (λ (c : Chosen). outcome_of a c (tolerances_of value point) limit) (known_chosen m b) in
+      let same : flat_outcome a method first second value point limit ≡ answer a m (tolerances_of value point) limit = ap (λ (c : Option Method). outcome_of a c (tolerances_of value point) limit) (known_chosen m b) in
       (answer a m (tolerances_of value point) limit, promised a m (tolerances_of value point) limit (known_held m b), k ∙ ap (λ (o : Outcome). kind_of o.answer) same, n ∙ ap (λ (o : Outcome). padded (numbers_of o.answer)) same, t ∙ ap (λ (o : Outcome). counts_of o.progress) same)
 
   told : (kind : ℕ) (numbers : List Float) (tallies : List ℕ) → kind ≡ flat_kind a method first second value point limit → numbers ≡ flat_numbers a method first second value point limit → tallies ≡ flat_tallies a method first second value point limit → Told a method first second value point limit kind numbers tallies
@@ -141,9 +141,9 @@ module _ (a : List Float) (method : ℕ) (first second value point : Float) (lim
             kinds = elim r [ inl z ↦ inl (w.2 ∙ z) | inr (inl z) ↦ inr (inl (w.2 ∙ z)) | inr (inr z) ↦ inr (inr (omega (arith, z.0, w.2), omega (arith, z.1, w.2))) ];
           }
 
-      of_none : NoMethod method → chosen_by method first second ≡ Unknown → Told a method first second value point limit kind numbers tallies
+      of_none : NoMethod method → chosen_by method first second ≡ None → Told a method first second value point limit kind numbers tallies
       of_none e c =
-          let same : flat_outcome a method first second value point limit ≡ refused_at_once 0 = ap (λ (c : Chosen). outcome_of a c (tolerances_of value point) limit) c in
+          let same : flat_outcome a method first second value point limit ≡ refused_at_once 0 = ap (λ (c : Option Method). outcome_of a c (tolerances_of value point) limit) c in
           let is_ten : kind ≡ 10 = k ∙ ap (λ (o : Outcome). kind_of o.answer) same in
           record {
             known = told_known kind numbers tallies k n t;

@@ -3,12 +3,11 @@
 use Prim.Native.Nat.{ℕ, ◌≤◌, ◌<◌}
 use Rattle.std.specs.Prelude.{List, [], ◌∷◌, ◌⊎◌, ◌≡◌, Float}
 use Rattle.doubles.specs.Doubles.{nought}
-use Rattle.numerical.specs.Answers.{kind_of, numbers_of}
+use Rattle.numerical.specs.Answers.{kind_of, numbers_of, padded, counts_of}
 use Rattle.numerical.specs.declared.Outcome.{Outcome}
 use Rattle.simple_convergency.specs.declared.Tolerances.{Tolerances}
 use Rattle.simple_convergency.specs.Stop.{tolerances_of}
 use Rattle.roots.specs.declared.Method.{Method}
-use Rattle.roots_c.specs.Flat.{padded, counts_of}
 use Rattle.roots.specs.declared.Method.TheVariants.{Brent, RegulaFalsi, Secant, NewtonRaphson, Polynom}
 use Rattle.promises.specs.Demand1.{Demand1}
 use Rattle.promises.specs.Demand2.{Demand2}

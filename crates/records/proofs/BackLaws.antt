@@ -28,7 +28,7 @@ use Rattle.rows.proofs.LayoutLaws.{spell_append}
 use Rattle.records.specs.Records.{bits_of, head_row, tolerances_row, rule_row, call_row, answer_row, progress_row, row_of, between, is_double, is_tolerance, is_kind, numbers_for, answer_of, started_at, noughts, padded, progress_of, doubles, behind_zero, headed, with_point, tolerances_for, record_layout, holds_both, longest_record}
 use Rattle.records.specs.Parts.{rule_layout, call_layout, answer_layout, progress_layout}
 use Rattle.records.specs.PartLaws.{CallNext, record_held, after_call}
-use Rattle.records.proofs.PartLaws.{by_parts}
+use Rattle.records.proofs.PartLaws.{by_parts, few_starts}
 use Rattle.records.specs.RoundLaws.{Held, Sound}
 use Rattle.records.proofs.RoundLaws.{at_the_end, most, least}
 use Rattle.records.specs.declared.Record.{Record}
@@ -407,14 +407,6 @@ method_back (suc (suc (suc zero))) l h n = (refl, sym (two_starts l n))
 method_back (suc (suc (suc (suc zero)))) l h n = (refl, sym (one_start l n))
 method_back (suc (suc (suc (suc (suc zero))))) l h n = (refl, sym (two_starts l n))
 method_back (suc (suc (suc (suc (suc (suc m)))))) l h n = absurd (let z = most 1 5 (suc (suc (suc (suc (suc (suc m)))))) h in omega arith)
-
-few_starts : (m : ℕ) → start_count m ≤ 2
-unfolding start_count
-few_starts m = go (eqb m 4)
-  where
-    go : (b : Bool) → cond b 1 2 ≤ 2
-    go true = omega arith
-    go false = omega arith
 
 record RulePart (kind m : ℕ) (next : Method → Tolerances → ℕ → Layout Record) (l : List ℕ) (x : Record) : Type 0 where
   method : Method

@@ -1,9 +1,9 @@
 -- What follows a record does not change it, and what is no record within as many bytes as the longest has is none whatever follows.
-use Rattle.std.specs.Prelude.{ℕ, ◌+◌, ◌-◌, ◌/◌, ◌%◌, ◌≤◌, ◌<◌, Bool, true, false, cond, ltb}
+use Rattle.std.specs.Prelude.{ℕ, ◌+◌, ◌-◌, ◌/◌, ◌%◌, ◌≤◌, ◌<◌, Bool, true, false, cond, ltb, Ok, Err}
 use native.Mathlib.Omega.{arith}
 use mathlib.Core.List.{List, [], ◌∷◌, ◌++◌, append_assoc}
 use Rattle.std.proofs.Math.Path.{◌≡◌, refl, sym, ap}
-use Rattle.std.proofs.Common.{◌∙◌, take-append-drop}
+use Rattle.std.proofs.Common.{◌∙◌, subst, take-append-drop}
 use Rattle.std.proofs.Math.ListN.{length, take, drop, length-append}
 use Rattle.std.proofs.lemmas.List.{take-append-le}
 use Rattle.std.proofs.Math.Seq.{take-append_seam}
@@ -13,7 +13,9 @@ use Rattle.rows.proofs.LayoutLaws.{row_fits, row_back, row_only, none_right}
 use Rattle.records.specs.Records.{headed, record_layout, longest_record, told, reading_of}
 use Rattle.records.proofs.BackLaws.{at_most_longest}
 use Rattle.records.specs.declared.Record.{Record}
-use Rattle.records.specs.declared.Verdict.TheVariants as verdict
+use Rattle.records.specs.declared.Reading.{Reading}
+use Rattle.records.specs.declared.Refusal.{Refusal}
+use Rattle.records.specs.declared.Refusal.TheVariants.{NoRecord}
 use Rattle.records.specs.PrefixLaws.{Holds}
 
 -- ---- a record has a byte at least
@@ -34,63 +36,64 @@ record_some : (l : List ℕ) (x : Record) → Row record_layout l x → 0 < leng
 unfolding record_layout headed
 record_some l x r = some_bytes r
 
--- ---- what a verdict tells of the bytes
+-- ---- what a reading tells of the bytes
 
-module _ (s : List ℕ) {n : ℕ} where
-  pub bytes_hold : (reading_of s).verdict ≡ verdict.Bytes n → (t : List ℕ) × Holds s n t
+module _ (s : List ℕ) where
+  pub bytes_hold : {r : Reading} → reading_of s ≡ Ok r → (t : List ℕ) × Holds s r t
   unfolding reading_of
-  bytes_hold e = go (read record_layout s) refl e
+  bytes_hold {r} e = go (read record_layout s) refl e
     where
-      go : (f : Read Record) → read record_layout s ≡ f → (told (length s) f).verdict ≡ verdict.Bytes n → (t : List ℕ) × Holds s n t
+      go : (f : Read Record) → read record_layout s ≡ f → told (length s) f ≡ Ok r → (t : List ℕ) × Holds s r t
       go wrong q z = absurd (let y : ◌≡◌ {A = ℕ} 0 1 = cc in omega arith)
       go (held o t) q z =
-          let y : length s - length t ≡ n = cc in
+          let y : record { length = length s - length t; content = o } ≡ r = cc in
           let w = row_only record_layout s o t q in
           let l = ap length w.is ∙ length-append (spell w.numbers) t in
           let m = record_some w.numbers o w.row in
-          (t, record { is = rw q; count = omega arith; some = omega arith })
+          (t, subst (λ (r : Reading). Holds s r t) y (record { is = q; count = omega arith; some = omega arith }))
 
-  pub refused_wrong : (reading_of s).verdict ≡ verdict.Refused n → read record_layout s ≡ wrong
-  unfolding reading_of
-  refused_wrong e = go (read record_layout s) refl e
-    where
-      go : (f : Read Record) → read record_layout s ≡ f → (told (length s) f).verdict ≡ verdict.Refused n → read record_layout s ≡ wrong
-      go wrong q z = q
-      go (held o t) q z = absurd (let y : ◌≡◌ {A = ℕ} 0 1 = cc in omega arith)
+  module _ {refusal : Refusal} where
+    pub refused_wrong : reading_of s ≡ Err refusal → read record_layout s ≡ wrong
+    unfolding reading_of
+    refused_wrong e = go (read record_layout s) refl e
+      where
+        go : (f : Read Record) → read record_layout s ≡ f → told (length s) f ≡ Err refusal → read record_layout s ≡ wrong
+        go wrong q z = q
+        go (held o t) q z = absurd (let y : ◌≡◌ {A = ℕ} 0 1 = cc in omega arith)
 
-  pub refused_eleven : (reading_of s).verdict ≡ verdict.Refused n → n ≡ 11
-  unfolding reading_of
-  refused_eleven e = go (read record_layout s) e
-    where
-      go : (f : Read Record) → (told (length s) f).verdict ≡ verdict.Refused n → n ≡ 11
-      go wrong z = cc
-      go (held o t) z = absurd (let y : ◌≡◌ {A = ℕ} 0 1 = cc in omega arith)
+    pub refused_eleven : reading_of s ≡ Err refusal → refusal ≡ NoRecord
+    unfolding reading_of
+    refused_eleven e = go (read record_layout s) e
+      where
+        go : (f : Read Record) → told (length s) f ≡ Err refusal → refusal ≡ NoRecord
+        go wrong z = cc
+        go (held o t) z = absurd (let y : ◌≡◌ {A = ℕ} 0 1 = cc in omega arith)
 
 -- ---- more bytes
 
 module _ (s u : List ℕ) where
   -- a record stays the same
-  pub record_stays : {n : ℕ} → (reading_of s).verdict ≡ verdict.Bytes n → reading_of (s ++ u) ≡ record { verdict = verdict.Bytes n; content = (reading_of s).content }
+  pub record_stays : {r : Reading} → reading_of s ≡ Ok r → reading_of (s ++ u) ≡ Ok r
   unfolding reading_of
-  record_stays {n} e = ap (told (length (s ++ u))) longer ∙ ap (λ (k : ℕ). record { verdict = verdict.Bytes k; content = (reading_of s).content }) count
+  record_stays {r} e = ap (told (length (s ++ u))) longer ∙ ap (λ (k : ℕ). Ok (record { length = k; content = r.content })) count
     where
-      h : (t : List ℕ) × Holds s n t
+      h : (t : List ℕ) × Holds s r t
       h = bytes_hold s e
 
-      longer : read record_layout (s ++ u) ≡ held (reading_of s).content (h.0 ++ u)
+      longer : read record_layout (s ++ u) ≡ held r.content (h.0 ++ u)
       longer =
-          let w = row_only record_layout s (reading_of s).content h.0 h.1.is in
+          let w = row_only record_layout s r.content h.0 h.1.is in
           ap (λ (l : List ℕ). read record_layout (l ++ u)) w.is ∙ rw (append_assoc (spell w.numbers) h.0 u) (row_back w.row (h.0 ++ u))
 
-      count : length (s ++ u) - length (h.0 ++ u) ≡ n
+      count : length (s ++ u) - length (h.0 ++ u) ≡ r.length
       count = rw (length-append s u, length-append h.0 u) (let c = h.1.count in omega arith)
 
   -- what is refused with as many bytes at hand as the longest record has stays refused
-  pub refusal_stays : {n : ℕ} → longest_record ≤ length s → (reading_of s).verdict ≡ verdict.Refused n → (reading_of (s ++ u)).verdict ≡ verdict.Refused 11
+  pub refusal_stays : {refusal : Refusal} → longest_record ≤ length s → reading_of s ≡ Err refusal → reading_of (s ++ u) ≡ Err NoRecord
   unfolding reading_of
   refusal_stays h e = go (read record_layout (s ++ u)) refl
     where
-      go : (f : Read Record) → read record_layout (s ++ u) ≡ f → (told (length (s ++ u)) f).verdict ≡ verdict.Refused 11
+      go : (f : Read Record) → read record_layout (s ++ u) ≡ f → told (length (s ++ u)) f ≡ Err NoRecord
       go wrong q = refl
       go (held o t) q =
           let w = row_only record_layout (s ++ u) o t q in

@@ -1,5 +1,5 @@
 -- What was read is a record by its own row, with its bytes and its length; and what can be recorded reads back from its bytes.
-use Rattle.std.specs.Prelude.{ℕ, ◌-◌, ◌≤◌, true, List, ◌++◌, ◌≡◌, drop}
+use Rattle.std.specs.Prelude.{ℕ, ◌-◌, ◌≤◌, true, List, ◌++◌, ◌≡◌, drop, Ok}
 use native.Mathlib.Omega.{arith}
 use Rattle.std.proofs.Math.Path.{ap}
 use Rattle.std.proofs.Common.{sym, ◌∙◌, subst, length-drop, drop_at, take_all}
@@ -15,7 +15,7 @@ use Rattle.records.proofs.BackLaws as back
 use Rattle.records.specs.PrefixLaws.{Holds}
 use Rattle.records.proofs.PrefixLaws.{bytes_hold}
 use Rattle.records.specs.declared.Record.{Record}
-use Rattle.records.specs.declared.Verdict.TheVariants as verdict
+use Rattle.records.specs.declared.Reading.{Reading}
 use Rattle.records.specs.ReadingLaws.{tail}
 
 -- ---- what the layout held
@@ -47,36 +47,36 @@ module _ (s : List ℕ) (o : Record) (t : List ℕ) (e : read record_layout s �
 pub tail_is : (s : List ℕ) (at : ℕ) → tail s at ≡ drop at s
 tail_is s at = take_all (length s - at) (drop at s) (let m = length-drop at s in omega arith)
 
-module _ (s : List ℕ) {n : ℕ} (e : (reading_of s).verdict ≡ verdict.Bytes n) where
+module _ (s : List ℕ) {r : Reading} (e : reading_of s ≡ Ok r) where
   abbrev behind : List ℕ
   behind = (bytes_hold s e).0
 
-  holds : Holds s n behind
+  holds : Holds s r behind
   holds = (bytes_hold s e).1
 
-  pub read_length : length (bytes_of (reading_of s).content) ≡ n
+  pub read_length : length (bytes_of r.content) ≡ r.length
   read_length = let a = own_length s _ behind holds.is in let b = holds.count in omega arith
 
-  pub read_bytes : s ≡ bytes_of (reading_of s).content ++ drop n s
-  read_bytes = own ∙ ap (λ (l : List ℕ). bytes_of (reading_of s).content ++ l) (sym rest)
+  pub read_bytes : s ≡ bytes_of r.content ++ drop r.length s
+  read_bytes = own ∙ ap (λ (l : List ℕ). bytes_of r.content ++ l) (sym rest)
     where
-      own : s ≡ bytes_of (reading_of s).content ++ behind
+      own : s ≡ bytes_of r.content ++ behind
       own = own_bytes s _ behind holds.is
 
-      rest : drop n s ≡ behind
-      rest = ap (drop n) own ∙ drop_at (bytes_of (reading_of s).content) behind n read_length
+      rest : drop r.length s ≡ behind
+      rest = ap (drop r.length) own ∙ drop_at (bytes_of r.content) behind r.length read_length
 
-  pub read_within : n ≤ length s
+  pub read_within : r.length ≤ length s
   read_within = let b = holds.count in omega arith
 
-  pub read_recordable : recordable (reading_of s).content ≡ true
+  pub read_recordable : recordable r.content ≡ true
   read_recordable = own_recordable s _ behind holds.is
 
-  pub read_sound : Sound (reading_of s).content
+  pub read_sound : Sound r.content
   read_sound = own_sound s _ behind holds.is
 
   -- at most 16 coefficients
-  pub read_few : (reading_of s).content.count ≤ most_coefficients
+  pub read_few : r.content.count ≤ most_coefficients
   read_few = most 1 most_coefficients _ (row_right _ read_sound (recordable_parts _ read_recordable).0 (own_right s _ behind holds.is)).0.count
 
 -- ---- what can be recorded
@@ -89,8 +89,8 @@ module _ (o : Record) (s : Sound o) (e : recordable o ≡ true) where
       subst (Row record_layout (row_of o)) (sym (row_right o s p.0 r.1).1) r.1
 
   -- its bytes read back, whatever follows them: of the coefficients those that it counts
-  pub recorded_reads : (t : List ℕ) → reading_of (bytes_of o ++ t) ≡ record { verdict = verdict.Bytes (length (bytes_of o)); content = trimmed o }
+  pub recorded_reads : (t : List ℕ) → reading_of (bytes_of o ++ t) ≡ Ok (record { length = length (bytes_of o); content = trimmed o })
   unfolding reading_of
   recorded_reads t =
       ap (told (length (bytes_of o ++ t))) (row_back recorded_right t)
-      ∙ ap (λ (n : ℕ). record { verdict = verdict.Bytes n; content = trimmed o }) (let a = length-append (bytes_of o) t in let z : length (bytes_of o ++ t) - length t ≡ length (bytes_of o) = omega arith in z)
+      ∙ ap (λ (n : ℕ). Ok (record { length = n; content = trimmed o })) (let a = length-append (bytes_of o) t in let z : length (bytes_of o ++ t) - length t ≡ length (bytes_of o) = omega arith in z)

@@ -27,6 +27,7 @@ use Rattle.rows.specs.Layouts.{Layout, end, number, Row, at_end, and_then}
 use Rattle.records.specs.Records.{bits_of, head_row, tolerances_row, rule_row, call_row, answer_row, progress_row, row_of, between, is_double, is_tolerance, is_kind, is_tally, numbers_for, answer_of, started_at, doubles, behind_zero, headed, with_point, tolerances_for, record_layout, holds_both, recordable}
 use Rattle.records.specs.Parts.{rule_layout, call_layout, answer_layout, progress_layout}
 use Rattle.records.specs.PartLaws.{CallNext, record_held, after_call}
+pub use Rattle.records.proofs.ReadLaws.{most, least}
 use Rattle.records.proofs.PartLaws.{by_parts}
 use Rattle.records.specs.declared.Record.{Record}
 use Rattle.records.specs.RoundLaws.{Held, trimmed, Sound, Right}
@@ -107,23 +108,6 @@ unfolding answer_of
 answer_is (ByValue root value) = refl
 answer_is (ByWidth root p q) = refl
 answer_is (Refused n) = rw (ne_eqb (10 + n) 0 (λ e. omega (arith, e)), ne_eqb (10 + n) 1 (λ e. omega (arith, e))) (ap Refused (omega arith))
-
-pub most : (least bound n : ℕ) → between least bound n ≡ true → n ≤ bound
-unfolding between
-most least bound n h = go (ltb n least) (ltb bound n) refl h
-  where
-    go : (b c : Bool) → ltb bound n ≡ c → cond b false (cond c false true) ≡ true → n ≤ bound
-    go true c e q = absurd (true≢false (sym q))
-    go false true e q = absurd (true≢false (sym q))
-    go false false e q = ltb-false bound n e
-
-pub least : (bound most n : ℕ) → between bound most n ≡ true → bound ≤ n
-unfolding between
-least bound most n h = go (ltb n bound) refl (ltb most n) h
-  where
-    go : (b : Bool) → ltb n bound ≡ b → (c : Bool) → cond b false (cond c false true) ≡ true → bound ≤ n
-    go true e c q = absurd (true≢false (sym q))
-    go false e c q = ltb-false n bound e
 
 not_bad : (b : Bool) → not b ≡ true → b ≡ false
 not_bad true e = absurd (true≢false (sym e))

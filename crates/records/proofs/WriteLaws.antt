@@ -1,13 +1,14 @@
 -- The parts of a record put one after the other, and a record written or refused.
-use Rattle.std.specs.Prelude.{ℕ, ◌+◌, ◌-◌, ◌*◌, ◌≤◌, ◌<◌, Bool, true, ◌⊎◌, eqb, length, take, drop, set, get_or, Float}
+use Rattle.std.specs.Prelude.{ℕ, ◌+◌, ◌-◌, ◌≤◌, ◌<◌, Bool, true, ◌⊎◌, eqb, ltb, min, Result, Ok, Err, length, take, drop, get_or, Float}
 use Rattle.std.proofs.Common.{add-one, arith, true≢false, inl, inr, sym, ◌∙◌, length-append, take_all}
 use Rattle.std.proofs.Math.Bool.{false}
 use mathlib.Core.List.{List, [], ◌∷◌, ◌++◌, append_assoc}
 use Rattle.std.proofs.Math.Path.{◌≡◌, refl, ap}
-use Rattle.std.proofs.Math.Seq.{take-suc, take-length}
+use Rattle.std.proofs.Math.Seq.{take-suc}
 use Rattle.std.specs.Float.Ieee.{nan, to_bits}
 use Rattle.std.specs.Float.{binary64}
-use borrow.Author.Tests.{lt-ltb, le-ltb, eq-eqb, ne_eqb}
+use borrow.Author.Tests.{lt-ltb, le-ltb, eq-eqb, ne_eqb, ltb-true, ltb-false}
+use Rattle.numerical.specs.Answers.{kind_of, numbers_of, padded}
 use Rattle.numerical.specs.declared.Answer.{Answer}
 use Rattle.numerical.specs.declared.Answer.TheVariants.{ByValue, ByWidth, Refused}
 use Rattle.numerical.specs.declared.Progress.{Progress}
@@ -15,18 +16,19 @@ use Rattle.simple_convergency.specs.declared.Tolerances.{Tolerances}
 use Rattle.roots.specs.Calls.{starts_of}
 use Rattle.roots.specs.Methods.{method_number}
 use Rattle.roots.specs.declared.Method.{Method}
-use Rattle.roots.specs.declared.Method.TheVariants.{NewtonRaphson}
 use Rattle.rows.specs.Layouts.{spell, fits, Read, held, wrong, read}
 use Rattle.rows.proofs.LayoutLaws.{row_only, right_if, wrong_if_none, wrong_if_short}
 use Rattle.rows.specs.Puts.{PutRow}
-use Rattle.rows.proofs.PutLaws.{put_nothing, put_one, put_both, put_length, put_front, row_nothing, row_both}
-use Rattle.records.specs.Records.{bits_of, head_row, tolerances_row, rule_row, call_row, answer_row, progress_row, row_of, record_layout, holds_both, recordable, bytes_of, written_to, left_by, told, reading_of}
+use Rattle.rows.proofs.PutLaws.{put_front, row_nothing, row_both}
+use Rattle.records.specs.Records.{bits_of, head_row, tolerances_row, rule_row, call_row, answer_row, progress_row, row_of, record_layout, holds_both, numbers_for, recordable, bytes_of, written_to, left_by, told, reading_of}
 use Rattle.records.specs.Parts.{is_all, whole_of}
+use Rattle.records.specs.Drafts.{Puts, Drawn}
+use Rattle.records.specs.declared.Draft.{Draft}
 use Rattle.records.specs.declared.Record.{Record}
 use Rattle.records.specs.declared.Reading.{Reading}
-use Rattle.records.specs.declared.Verdict.{Verdict}
-use Rattle.records.specs.declared.Verdict.TheVariants as verdict
-use Rattle.records.specs.WriteLaws.{PuttingDoubles, Copying}
+use Rattle.records.specs.declared.Refusal.{Refusal}
+use Rattle.records.specs.declared.Refusal.TheVariants.{NoRoom, NoRecord}
+use Rattle.records.specs.WriteLaws.{PuttingDoubles}
 
 -- ---- doubles
 
@@ -35,71 +37,60 @@ unfolding bits_of
 bits_append [] b = refl
 bits_append (x ∷ a) b = ap (λ (l : List ℕ). to_bits binary64 x ∷ l) (bits_append a b)
 
-pub doubles_start : (b : List ℕ) (at : ℕ) (a : List Float) (k : ℕ) → at + 10 * k ≤ length b → k ≤ length a → PuttingDoubles b at a k b at 0
+pub doubles_start : (d : Draft) (a : List Float) → d.length ≤ length d.bytes → PuttingDoubles d a d 0
 unfolding bits_of
-doubles_start b at a k h l = record { room = h; long = refl; count = omega arith; enough = l; near = omega arith; is = row_nothing b at (omega arith) }
+doubles_start d a h = record { near = omega arith; is = row_nothing d.bytes d.length h }
 
-module _ {b : List ℕ} {at : ℕ} {a : List Float} {k : ℕ} {now : List ℕ} {p i : ℕ} (g : PuttingDoubles b at a k now p i) where
-  pub doubles_on : {n : ℕ} {after : List ℕ} {q : ℕ} → i < k → n ≡ to_bits binary64 (get_or a i nan) → PutRow now p (n ∷ []) after q → q ≤ p + 10 → length after ≡ length now → PuttingDoubles b at a k after q (i + 1)
+module _ {before now : Draft} {a : List Float} {i : ℕ} (g : PuttingDoubles before a now i) where
+  pub doubles_on : {n : ℕ} {after : Draft} → i < length a → n ≡ to_bits binary64 (get_or a i nan) → Puts (n ∷ []) now after → after.length ≤ now.length + 10 → PuttingDoubles before a after (i + 1)
   unfolding bits_of
-  doubles_on {n} {after} {q} h e x s l =
-      let z = g.near in
-      let y = g.long in
-      record {
-        room = g.room;
-        long = omega arith;
-        count = omega arith;
-        enough = g.enough;
-        near = omega arith;
-        is = rw bits (row_both g.is x);
-      }
+  doubles_on {n} {after} h e x s = record { near = let z = g.near in omega arith; is = rw bits (row_both g.is x) }
     where
       bits : bits_of (take (i + 1) a) ≡ bits_of (take i a) ++ (n ∷ [])
-      bits = rw (add-one i, take-suc a i nan (let m = g.enough in omega arith), bits_append, e)
+      bits = rw (add-one i, take-suc a i nan h, bits_append, e)
 
-  pub doubles_done : k ≤ i → PutRow b at (bits_of (take k a)) now p
-  doubles_done h = rw (← same) g.is
-    where
-      same : i ≡ k
-      same = let c = g.count in omega arith
+  pub doubles_done : length a ≤ i → Puts (bits_of a) before now
+  doubles_done h = rw (take_all i a h) at g.is
 
-pub all_put : (b : List ℕ) (at : ℕ) (a : List Float) (k : ℕ) {now : List ℕ} {r : ℕ} → 16 < k → length a ≡ 16 → PutRow b at (bits_of (take 16 a)) now r → PutRow b at (bits_of (take k a)) now r
-all_put b at a k h l x = rw (take_all k a (omega arith) ∙ sym (take_all 16 a (omega arith))) x
+-- where there are more than 16, the first 16 are all
+pub all_put : (b : List ℕ) (at : ℕ) (a : List Float) (k j : ℕ) {now : List ℕ} {r : ℕ} → length a ≡ 16 → j ≡ min k 16 → PutRow b at (bits_of (take j a)) now r → PutRow b at (bits_of (take k a)) now r
+all_put b at a k j l e x = rw (same (ltb k 16) refl) x
+  where
+    same : (c : Bool) → ltb k 16 ≡ c → take k a ≡ take j a
+    same true f = ap (λ (i : ℕ). take i a) (let h = ltb-true k 16 f in omega arith)
+    same false f = take_all k a (let h = ltb-false k 16 f in omega arith) ∙ sym (take_all j a (let h = ltb-false k 16 f in omega arith))
 
 -- ---- the parts of a record
+
+-- as many of an answer's numbers as its kind has
+own_numbers : (o : Answer) (n : ℕ) → n ≡ kind_of o → take (numbers_for n) (padded (numbers_of o)) ≡ numbers_of o
+unfolding numbers_for
+own_numbers (ByValue x y) n e = rw e
+own_numbers (ByWidth x y z) n e = rw e
+own_numbers (Refused m) n e = rw (ne_eqb n 0 (λ z. omega arith), ne_eqb n 1 (λ z. omega arith))
 
 module _ (a : List ℕ) (at : ℕ) {b : List ℕ} {p : ℕ} where
   pub starts_put : (m : Method) {n : Method} → m ≡ n → PutRow a at (bits_of (starts_of n)) b p → PutRow a at (bits_of (starts_of m)) b p
   starts_put m e x = rw e x
 
-  pub start_put : (m : Method) {n : ℕ} {x : Float} → m ≡ NewtonRaphson x → n ≡ to_bits binary64 x → PutRow a at (n ∷ []) b p → PutRow a at (bits_of (starts_of m)) b p
-  unfolding bits_of
-  start_put m e f y = rw (e, ← f) y
-
   pub old_head_put : (kind : ℕ) (m : Method) {n : ℕ} → kind ≡ 1 → n ≡ method_number m → PutRow a at (n ∷ []) b p → PutRow a at (head_row kind ++ (method_number m ∷ [])) b p
   unfolding head_row
   old_head_put kind m e f y = rw (eq-eqb kind 1 e, ← f) y
 
-  pub one_put : (kind : ℕ) (t : Tolerances) {n : ℕ} → kind ≡ 1 → n ≡ to_bits binary64 t.value → PutRow a at (n ∷ []) b p → PutRow a at (tolerances_row kind t) b p
-  unfolding tolerances_row
-  one_put kind t e f y = rw (eq-eqb kind 1 e, ← f) y
+  pub one_put : (kind : ℕ) (t : Tolerances) → kind ≡ 1 → PutRow a at (bits_of (t.value ∷ [])) b p → PutRow a at (tolerances_row kind t) b p
+  unfolding tolerances_row bits_of
+  one_put kind t e y = rw (eq-eqb kind 1 e) y
 
   pub two_put : (kind : ℕ) (t : Tolerances) → (kind ≡ 1 → ⊥) → PutRow a at (bits_of (t.value ∷ t.point ∷ [])) b p → PutRow a at (tolerances_row kind t) b p
   unfolding tolerances_row bits_of
   two_put kind t z y = rw (ne_eqb kind 1 z) y
 
-  pub refused_put : (o : Answer) {n : ℕ} → o ≡ Refused n → PutRow a at ((10 + n) ∷ []) b p → PutRow a at (answer_row o) b p
-  unfolding answer_row bits_of
-  refused_put o e f = rw e f
-
   module _ {c : List ℕ} {q : ℕ} where
-    pub value_put : (o : Answer) {x y : Float} → o ≡ ByValue x y → PutRow a at (0 ∷ []) b p → PutRow b p (bits_of (x ∷ y ∷ [])) c q → PutRow a at (answer_row o) c q
+    pub answer_put :
+        (o : Answer) {n k : ℕ} {l : List Float} → n ≡ kind_of o → k ≡ numbers_for n → l ≡ padded (numbers_of o) → PutRow a at (n ∷ []) b p → PutRow b p (bits_of (take k l)) c q →
+        PutRow a at (answer_row o) c q
     unfolding answer_row
-    value_put o e f g = rw e (row_both f g)
-
-    pub width_put : (o : Answer) {x y z : Float} → o ≡ ByWidth x y z → PutRow a at (1 ∷ []) b p → PutRow b p (bits_of (take 3 (x ∷ y ∷ z ∷ []))) c q → PutRow a at (answer_row o) c q
-    unfolding answer_row
-    width_put o e f g = rw e (row_both f g)
+    answer_put o {n} {k} {l} e f g x y = rw (← e) (rw (own_numbers o n e) at (rw (f, g) at (row_both x y)))
 
     module _ {d : List ℕ} {r : ℕ} where
       pub rule_put :
@@ -122,32 +113,14 @@ module _ (a : List ℕ) (at : ℕ) {b : List ℕ} {p : ℕ} where
           rw (append_assoc (head_row k.kind) (method_number k.method ∷ []) (k.count ∷ (bits_of (take k.count k.coefficients) ++ rule_row k.kind k.method k.tolerances k.limit))) at
           (row_both x (row_both y (row_both z w)))
 
-      pub progress_put : (g : Progress) {e : List ℕ} {u : ℕ} → PutRow a at (g.tally.steps.0 ∷ []) b p → PutRow b p (g.tally.values.0 ∷ []) c q → PutRow c q (g.tally.derivatives.0 ∷ []) d r → PutRow d r (g.mark ∷ []) e u → PutRow a at (progress_row g) e u
+      pub progress_put : (g : Progress) {n : ℕ} {e : List ℕ} {u : ℕ} → n ≡ g.mark → PutRow a at (g.tally.steps.0 ∷ []) b p → PutRow b p (g.tally.values.0 ∷ []) c q → PutRow c q (g.tally.derivatives.0 ∷ []) d r → PutRow d r (n ∷ []) e u → PutRow a at (progress_row g) e u
       unfolding progress_row
-      progress_put g x y z w = row_both x (row_both y (row_both z w))
+      progress_put g f x y z w = rw f at (row_both x (row_both y (row_both z w)))
 
-      pub record_put : (k : Record) → PutRow a at (call_row k) b p → PutRow b p (answer_row k.outcome.answer) c q → PutRow c q (progress_row k.outcome.progress) d r → PutRow a at (row_of k) d r
-      unfolding row_of
-      record_put k x y z = row_both x (row_both y z)
-
--- ---- a copy, byte by byte
-
-pub copy_starts : (before t : List ℕ) → length t ≤ length before → Copying before t before 0
-copy_starts before t h = record { room = h; long = refl; count = omega arith; is = put_nothing before 0 (omega arith) }
-
-module _ {before t now : List ℕ} {i : ℕ} (g : Copying before t now i) where
-  pub copy_on : i < length t → Copying before t (set now i (get_or t i 0)) (i + 1)
-  copy_on h =
-      let r = g.room in
-      let l = g.long in
-      let x = put_both g.is (put_one now i (get_or t i 0) (omega arith)) in
-      record { room = r; long = put_length x; count = omega arith; is = rw (add-one i, take-suc t i 0 h) (rw (add-one i) at x) }
-
-  pub copy_done : length t ≤ i → now ≡ t ++ drop (length t) before
-  copy_done h = g.is.is ∙ ap (λ (k : ℕ). take k t ++ drop k before) same ∙ ap (λ (l : List ℕ). l ++ drop (length t) before) (take-length t)
-    where
-      same : i ≡ length t
-      same = let c = g.count in omega arith
+pub record_drawn :
+    (k : Record) {empty called answered drawn : Draft} → empty.length ≡ 0 → Puts (call_row k) empty called → Puts (answer_row k.outcome.answer) called answered → Puts (progress_row k.outcome.progress) answered drawn → Drawn (row_of k) drawn
+unfolding row_of
+record_drawn k {empty} e x y z = record { before = empty.bytes; is = rw e at (row_both x (row_both y z)) }
 
 -- ---- a record written, or refused
 
@@ -156,51 +129,44 @@ pub same_bits : (kind : ℕ) (t : Tolerances) {i j : ℕ} → kind ≡ 1 → i �
 unfolding holds_both
 same_bits kind t e f g = rw (eq-eqb kind 1 e, ← f, ← g)
 
-module _ {row aside line : List ℕ} {n : ℕ} (x : PutRow aside 0 row line n) where
-  spelled : take n line ≡ spell row
-  spelled = put_front x.put
+module _ {row : List ℕ} {draft : Draft} (x : Drawn row draft) where
+  -- the bytes that were put
+  abbrev drawn : List ℕ
+  drawn = take draft.length draft.bytes
 
-  as_long : n ≡ length (spell row)
-  as_long = x.put.ends ∙ (let z : 0 + length (spell row) ≡ length (spell row) = omega arith in z)
+  spelled : drawn ≡ spell row
+  spelled = put_front x.is.put
 
-  length_is : length (take n line) ≡ n
-  length_is = ap length spelled ∙ sym as_long
+  as_long : draft.length ≡ length (spell row)
+  as_long = x.is.put.ends ∙ (let z : 0 + length (spell row) ≡ length (spell row) = omega arith in z)
 
-  pub count_is : n ≡ length (take n line)
-  count_is = sym length_is
+  pub count_is : draft.length ≡ length drawn
+  count_is = as_long ∙ sym (ap length spelled)
 
-  pub room_is : (before : List ℕ) → n ≤ length before → length (take n line) ≤ length before
-  room_is before h = rw length_is h
-
--- what the verdict of a reading says of the bytes
-module _ (s : List ℕ) {b : Reading} (y : b ≡ reading_of s) where
-  told_by : {v : Verdict} → b.verdict ≡ v → (told (length s) (read record_layout s)).verdict ≡ v
-  unfolding reading_of
-  told_by e = ap (λ (r : Reading). r.verdict) (sym y) ∙ e
-
-  pub whole_not : {k : ℕ} → b.verdict ≡ verdict.Refused k → false ≡ whole_of s
-  unfolding whole_of
-  whole_not {k} e = go (read record_layout s) (told_by e)
+-- what a reading says of the bytes
+module _ (s : List ℕ) where
+  pub whole_not : {refusal : Refusal} → Err refusal ≡ reading_of s → false ≡ whole_of s
+  unfolding reading_of whole_of
+  whole_not {refusal} e = go (read record_layout s) e
     where
-      go : (f : Read Record) → (told (length s) f).verdict ≡ verdict.Refused k → false ≡ is_all f
+      go : (f : Read Record) → Err refusal ≡ told (length s) f → false ≡ is_all f
       go wrong q = refl
       go (held o t) q = absurd (let z : ◌≡◌ {A = ℕ} 0 1 = cc in omega arith)
 
-  pub whole_if : {k : ℕ} → b.verdict ≡ verdict.Bytes k → eqb k (length s) ≡ whole_of s
-  unfolding whole_of
-  whole_if {k} e = go (read record_layout s) refl (told_by e)
+  pub whole_if : {r : Reading} → Ok r ≡ reading_of s → eqb r.length (length s) ≡ whole_of s
+  unfolding reading_of whole_of
+  whole_if {r} e = go (read record_layout s) refl e
     where
-      bytes_one : {i j : ℕ} → verdict.Bytes i ≡ verdict.Bytes j → i ≡ j
-      bytes_one q = cc
-
-      go : (f : Read Record) → read record_layout s ≡ f → (told (length s) f).verdict ≡ verdict.Bytes k → eqb k (length s) ≡ is_all f
+      go : (f : Read Record) → read record_layout s ≡ f → Ok r ≡ told (length s) f → eqb r.length (length s) ≡ is_all f
       go wrong g q = absurd (let z : ◌≡◌ {A = ℕ} 0 1 = cc in omega arith)
-      go (held o []) g q = let u : length s - 0 ≡ k = bytes_one q in eq-eqb k (length s) (omega arith)
-      go (held o (c ∷ t)) g q =
-          let u : length s - length (c ∷ t) ≡ k = bytes_one q in
-          let w = row_only record_layout s o (c ∷ t) g in
-          let a = ap length w.is ∙ length-append (spell w.numbers) (c ∷ t) in
-          ne_eqb k (length s) (λ z. omega arith)
+      go (held o t) g q = let u : r ≡ record { length = length s - length t; content = o } = cc in all_or_not t g (ap (λ (x : Reading). x.length) u)
+        where
+          all_or_not : (t : List ℕ) → read record_layout s ≡ held o t → r.length ≡ length s - length t → eqb r.length (length s) ≡ is_all (held o t)
+          all_or_not [] g u = eq-eqb r.length (length s) (omega arith)
+          all_or_not (c ∷ t) g u =
+              let w = row_only record_layout s o (c ∷ t) g in
+              let a = ap length w.is ∙ length-append (spell w.numbers) (c ∷ t) in
+              ne_eqb r.length (length s) (λ z. omega arith)
 
 -- a row is right exactly if its bytes are one record
 all_held : (f : Read Record) → is_all f ≡ true → (o : Record) × (f ≡ held o [])
@@ -218,26 +184,26 @@ not_all (held o (c ∷ t)) e = inr (o, t', refl, λ z. absurd (let a = ap length
 
 module _ (o : Record) (before : List ℕ) where
   -- the verdict, and what it leaves
-  both : {v w : Verdict} {now : List ℕ} → w ≡ v → v ≡ written_to o (length before) → now ≡ left_by o before v → (w ≡ written_to o (length before)) × (now ≡ left_by o before (written_to o (length before)))
+  both : {v w : Result ℕ Refusal} {now : List ℕ} → w ≡ v → v ≡ written_to o (length before) → now ≡ left_by o before v → (w ≡ written_to o (length before)) × (now ≡ left_by o before (written_to o (length before)))
   both e f g = (e ∙ f, g ∙ ap (left_by o before) f)
 
-  pub eleven : recordable o ≡ false → verdict.Refused 11 ≡ written_to o (length before)
+  pub eleven : recordable o ≡ false → Err NoRecord ≡ written_to o (length before)
   unfolding written_to
   eleven e = rw e
 
-  pub ten : recordable o ≡ true → length before < length (bytes_of o) → verdict.Refused 10 ≡ written_to o (length before)
+  pub ten : recordable o ≡ true → length before < length (bytes_of o) → Err NoRoom ≡ written_to o (length before)
   unfolding written_to
   ten e h = rw (e, lt-ltb (length before) (length (bytes_of o)) h)
 
-  pub enough : recordable o ≡ true → length (bytes_of o) ≤ length before → verdict.Bytes (length (bytes_of o)) ≡ written_to o (length before)
+  pub enough : recordable o ≡ true → length (bytes_of o) ≤ length before → Ok (length (bytes_of o)) ≡ written_to o (length before)
   unfolding written_to
   enough e h = rw (e, le-ltb (length before) (length (bytes_of o)) h)
 
   -- two tolerances that the kind has no room for
-  pub no_room_for_both : {b : Bool} → b ≡ holds_both o.kind o.tolerances → b ≡ false → (verdict.Refused 11 ≡ written_to o (length before)) × (before ≡ left_by o before (written_to o (length before)))
+  pub no_room_for_both : {b : Bool} → b ≡ holds_both o.kind o.tolerances → b ≡ false → (Err NoRecord ≡ written_to o (length before)) × (before ≡ left_by o before (written_to o (length before)))
   no_room_for_both y e = both refl (eleven (rw (sym y ∙ e))) refl
 
-module _ (before : List ℕ) (o : Record) {h : Bool} (k : h ≡ holds_both o.kind o.tolerances) (j : h ≡ true) {aside line : List ℕ} {n : ℕ} (x : PutRow aside 0 (row_of o) line n) {b : Bool} (y : b ≡ whole_of (take n line)) where
+module _ (before : List ℕ) (o : Record) {h : Bool} (k : h ≡ holds_both o.kind o.tolerances) (j : h ≡ true) {draft : Draft} (x : Drawn (row_of o) draft) {b : Bool} (y : b ≡ whole_of (take draft.length draft.bytes)) where
   on_row : b ≡ is_all (read record_layout (spell (row_of o)))
   unfolding whole_of
   on_row = y ∙ ap (λ (s : List ℕ). is_all (read record_layout s)) (spelled x)
@@ -246,7 +212,7 @@ module _ (before : List ℕ) (o : Record) {h : Bool} (k : h ≡ holds_both o.kin
   by_row : recordable o ≡ fits record_layout (row_of o)
   by_row = rw (sym k ∙ j)
 
-  pub not_whole : b ≡ false → (verdict.Refused 11 ≡ written_to o (length before)) × (before ≡ left_by o before (written_to o (length before)))
+  pub not_whole : b ≡ false → (Err NoRecord ≡ written_to o (length before)) × (before ≡ left_by o before (written_to o (length before)))
   not_whole e = both o before refl (eleven o before (by_row ∙ go (not_all (read record_layout (spell (row_of o))) (sym on_row ∙ e)))) refl
     where
       go : (read record_layout (spell (row_of o)) ≡ wrong) ⊎ ((c : Record) × (t : List ℕ) × (read record_layout (spell (row_of o)) ≡ held c t) × (t ≡ [] → ⊥)) → fits record_layout (row_of o) ≡ false
@@ -255,10 +221,14 @@ module _ (before : List ℕ) (o : Record) {h : Bool} (k : h ≡ holds_both o.kin
 
   module _ (e : b ≡ true) where
     right : recordable o ≡ true
-    right = let f = all_held (read record_layout (spell (row_of o))) (sym on_row ∙ e) in by_row ∙ right_if record_layout (row_of o) f.0 x.small f.1
+    right = let f = all_held (read record_layout (spell (row_of o))) (sym on_row ∙ e) in by_row ∙ right_if record_layout (row_of o) f.0 x.is.small f.1
 
-    pub no_room : length before < n → (verdict.Refused 10 ≡ written_to o (length before)) × (before ≡ left_by o before (written_to o (length before)))
+    pub no_room : length before < draft.length → (Err NoRoom ≡ written_to o (length before)) × (before ≡ left_by o before (written_to o (length before)))
     no_room h = both o before refl (ten o before right (rw (← (as_long x)) h)) refl
 
-    pub written : {now : List ℕ} → n ≤ length before → now ≡ take n line ++ drop (length (take n line)) before → (verdict.Bytes n ≡ written_to o (length before)) × (now ≡ left_by o before (written_to o (length before)))
-    written h q = both o before (ap verdict.Bytes (as_long x)) (enough o before right (rw (← (as_long x)) h)) (q ∙ ap (λ (l : List ℕ). l ++ drop (length l) before) (spelled x))
+    pub written :
+        {t : List ℕ} → draft.length ≤ length before → t ≡ take draft.length draft.bytes →
+        (Ok draft.length ≡ written_to o (length before)) × (t ++ drop draft.length before ≡ left_by o before (written_to o (length before)))
+    written h q =
+        both o before (ap (λ (k : ℕ). Ok k) (as_long x)) (enough o before right (rw (← (as_long x)) h))
+        (ap (λ (l : List ℕ). l ++ drop draft.length before) (q ∙ spelled x) ∙ ap (λ (k : ℕ). bytes_of o ++ drop k before) (as_long x))

@@ -1,6 +1,7 @@
 -- What the contracts of `records` cite.
 pub mod Records
 pub mod Parts
+pub mod Drafts
 -- what proofs cite
 pub mod ReadLaws
 pub mod PartLaws

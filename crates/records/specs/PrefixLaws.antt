@@ -4,9 +4,10 @@ use mathlib.Core.List.{List}
 use Rattle.std.proofs.Math.Path.{◌≡◌}
 use Rattle.std.proofs.Math.ListN.{length}
 use Rattle.rows.specs.Layouts.{held, read}
-use Rattle.records.specs.Records.{record_layout, reading_of}
+use Rattle.records.specs.Records.{record_layout}
+use Rattle.records.specs.declared.Reading.{Reading}
 
-pub record Holds (s : List ℕ) (n : ℕ) (t : List ℕ) : Type 0 where
-  pub is : read record_layout s ≡ held (reading_of s).content t
-  pub count : n + length t ≡ length s
-  pub some : 0 < n
+pub record Holds (s : List ℕ) (r : Reading) (t : List ℕ) : Type 0 where
+  pub is : read record_layout s ≡ held r.content t
+  pub count : r.length + length t ≡ length s
+  pub some : 0 < r.length

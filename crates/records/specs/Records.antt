@@ -1,5 +1,5 @@
 -- A record of a search: the row of numbers of a call and its answer, which rows are records, and what reading and writing bytes gives. Definitions only.
-use Rattle.std.specs.Prelude.{ℕ, zero, suc, ◌-◌, Bool, true, false, cond, not, List, [], ◌∷◌, ◌++◌, ltb, eqb, length, take, drop, get_or, Float}
+use Rattle.std.specs.Prelude.{ℕ, zero, suc, ◌-◌, Bool, true, false, cond, not, List, [], ◌∷◌, ◌++◌, ltb, eqb, length, take, drop, get_or, Float, Result, Ok, Err}
 use Rattle.std.specs.Float.{nan, binary64}
 use Rattle.std.specs.Float.Ieee.{of_bits, to_bits}
 use Rattle.std.specs.Float.Ieee.Scale.{finite}
@@ -17,8 +17,14 @@ use Rattle.roots.specs.declared.Method.TheVariants.{Brent}
 use Rattle.rows.specs.Layouts.{Layout, end, number, spell, fits, Read, held, wrong, read}
 use Rattle.records.specs.declared.Record.{Record}
 use Rattle.records.specs.declared.Reading.{Reading}
-use Rattle.records.specs.declared.Verdict.{Verdict}
-use Rattle.records.specs.declared.Verdict.TheVariants as verdict
+use Rattle.records.specs.declared.Refusal.{Refusal}
+use Rattle.records.specs.declared.Refusal.TheVariants.{NoRoom, NoRecord}
+
+-- ---- refusals
+
+abbrev pub refusal_number : Refusal → ℕ
+refusal_number NoRoom = 10
+refusal_number NoRecord = 11
 
 -- ---- the row of a record
 
@@ -171,27 +177,24 @@ abbrev pub bytes_of : Record → List ℕ
 bytes_of r = spell (row_of r)
 
 -- 11 where the call and answer break the layout; "then 10, the lent buffer is too short"
-unfoldable pub written_to : Record → ℕ → Verdict
-written_to r room = cond (recordable r) (cond (ltb room (length (bytes_of r))) (verdict.Refused 10) (verdict.Bytes (length (bytes_of r)))) (verdict.Refused 11)
+unfoldable pub written_to : Record → ℕ → Result ℕ Refusal
+written_to r room = cond (recordable r) (cond (ltb room (length (bytes_of r))) (Err NoRoom) (Ok (length (bytes_of r)))) (Err NoRecord)
 
 -- "writing leaves the rest"; "Either leaves it unchanged"
-abbrev pub left_by : Record → List ℕ → Verdict → List ℕ
-left_by r before (verdict.Bytes n) = bytes_of r ++ drop n before
-left_by r before (verdict.Refused refusal) = before
+abbrev pub left_by : Record → List ℕ → Result ℕ Refusal → List ℕ
+left_by r before (Ok n) = bytes_of r ++ drop n before
+left_by r before (Err refusal) = before
 
 -- ---- reading
 
--- what stands beside a refusal
+-- what C has beside a refusal
 abbrev pub blank : Record
 blank = record { kind = 0; coefficients = noughts; count = 0; method = Brent nought nought; tolerances = one_eps nought; limit = 0; outcome = refused_at_once 0 }
 
-abbrev pub no_record : Reading
-no_record = record { verdict = verdict.Refused 11; content = blank }
-
 -- "Reading takes the record at the buffer's start, tells its length and ignores what follows": its length is that of the bytes without those left
-abbrev pub told : ℕ → Read Record → Reading
-told long (held r rest) = record { verdict = verdict.Bytes (long - length rest); content = r }
-told long wrong = no_record
+abbrev pub told : ℕ → Read Record → Result Reading Refusal
+told long (held r rest) = Ok (record { length = long - length rest; content = r })
+told long wrong = Err NoRecord
 
-unfoldable pub reading_of : List ℕ → Reading
+unfoldable pub reading_of : List ℕ → Result Reading Refusal
 reading_of bytes = told (length bytes) (read record_layout bytes)

@@ -14,7 +14,7 @@ use Rattle.replay.specs.declared.Turn.{Turn}
 -- the counts of a verdict over a block of so many bytes
 abbrev pub Within : ℕ → Playback → Type 0
 Within long (Agree n) = n ≤ long
-Within long (Differs n at f x y) = (n ≤ long) × (at ≤ long)
+Within long (Differs n at d) = (n ≤ long) × (at ≤ long)
 Within long (Refused k n at) = (n ≤ long) × (at < long)
 
 -- there is room to add them
@@ -30,7 +30,7 @@ may_go_on is_last left = cond is_last false (ltb left longest_record)
 
 abbrev pub course_of : Playback → ℕ → Bool → Reached → Course
 course_of (Agree n) long is_last reached = cond is_last (Ended (Agree (reached.records + n))) (Open long (reached_at (reached.records + n) (reached.offset + long)))
-course_of (Differs n at f x y) long is_last reached = Ended (Differs (reached.records + n) (reached.offset + at) f x y)
+course_of (Differs n at d) long is_last reached = Ended (Differs (reached.records + n) (reached.offset + at) d)
 course_of (Refused k n at) long is_last reached =
     cond (may_go_on is_last (long - at)) (Open at (reached_at (reached.records + n) (reached.offset + at))) (Ended (Refused k (reached.records + n) (reached.offset + at)))
 
@@ -46,7 +46,7 @@ Goes block is_last reached (Open at next) =
 
 -- a turn that goes on has reached what a course says, and the bytes that are left of those given stand at the front
 abbrev pub Follows : List ℕ → Bool → Reached → List ℕ → Turn → Type 0
-Follows given is_last reached left t = t.is_open ≡ true → (at : ℕ) × Goes given is_last reached (Open at t.reached) × (take t.kept left ≡ drop at given)
+Follows given is_last reached left t = (at : ℕ) × Goes given is_last reached (Open at t.reached) × (take t.kept left ≡ drop at given)
 
 -- ---- how much there is
 

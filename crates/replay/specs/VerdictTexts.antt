@@ -1,7 +1,9 @@
 -- A verdict as a line. Definitions only.
 use Rattle.std.specs.Prelude.{ℕ, Bool, true, false, cond, List, [], ◌∷◌, ◌++◌}
 use Rattle.line_text.specs.Texts.{bytes, decimal_field, hex_text}
+use Rattle.records.specs.Records.{refusal_number}
 use Rattle.playback.specs.Playback.{field_number}
+use Rattle.playback.specs.declared.Difference.{Difference}
 use Rattle.playback.specs.declared.Field.{Field}
 use Rattle.playback.specs.declared.Field.TheVariants.{Kind, First, Second, Third, Steps, Values, Derivatives, Mark}
 use Rattle.playback.specs.declared.Playback.{Playback}
@@ -35,10 +37,10 @@ unfoldable pub place_text : ℕ → ℕ → List ℕ
 place_text records offset = decimal_field records 32 ++ decimal_field offset 32
 
 -- FIELD RECORDED NOW
-unfoldable pub difference_text : Field → ℕ → ℕ → List ℕ
-difference_text field recorded present = decimal_field (field_number field) 32 ++ value_text field recorded 32 ++ value_text field present 10
+unfoldable pub difference_text : Difference → List ℕ
+difference_text d = decimal_field (field_number d.field) 32 ++ value_text d.field d.recorded 32 ++ value_text d.field d.present 10
 
 abbrev pub verdict_text : Playback → List ℕ
 verdict_text (Agree records) = bytes "agree " ++ decimal_field records 10
-verdict_text (Differs records offset field recorded present) = bytes "differs " ++ place_text records offset ++ difference_text field recorded present
-verdict_text (Refused refusal records offset) = bytes "refused " ++ place_text records offset ++ decimal_field refusal 10
+verdict_text (Differs records offset difference) = bytes "differs " ++ place_text records offset ++ difference_text difference
+verdict_text (Refused refusal records offset) = bytes "refused " ++ place_text records offset ++ decimal_field (refusal_number refusal) 10

@@ -11,8 +11,8 @@ ghost use Rattle.replay.specs.Courses.{Bounded, Follows, Goes, Room, Within, blo
 ghost use Rattle.replay.specs.VerdictTexts.{difference_text, hex_field, is_number, longest_line, place_text, value_text, verdict_text};
 
 use line_text::text;
-use playback::{Field, Playback};
-use records::Record;
+use playback::{Difference, Field, Playback};
+use records::{Record, Refusal};
 use std::io::{Read, Stdin, Stdout, Write};
 
 // How many records agree so far, and how many bytes they take.
@@ -29,12 +29,11 @@ enum Course {
     Open { at: usize, reached: Reached },
 }
 
-// How many bytes at the front of the buffer wait for the next block, what is behind them, and whether to go on.
+// A playback that goes on: how many bytes at the front of the buffer wait for the next block, and what is behind them.
 #[derive(Clone, Copy)]
 struct Turn {
     kept: usize,
     reached: Reached,
-    is_open: bool,
 }
 
 // ---- the verdict as a line
@@ -43,16 +42,7 @@ struct Turn {
 fn is_number(field: Field) -> bool
     ensures { result ≡ is_number field }
 {
-    match field {
-        Field::Kind => false,
-        Field::First => true,
-        Field::Second => true,
-        Field::Third => true,
-        Field::Steps => false,
-        Field::Values => false,
-        Field::Derivatives => false,
-        Field::Mark => false,
-    }
+    matches!(field, Field::First | Field::Second | Field::Third)
 }
 
 // A number of 64 bits in 16 hexadecimal digits, and a byte after it.
@@ -74,9 +64,10 @@ fn put_value(out: &mut [u8], at: usize, field: Field, n: u64, after: u8) -> usiz
     ensures upper_bound { result ≤ at + 21 }
 {
     if is_number(field) {
-        return put_hex(out, at, n, after);
+        put_hex(out, at, n, after)
+    } else {
+        text::put_decimal(out, at, n, after)
     }
-    text::put_decimal(out, at, n, after)
 }
 
 // The records that agree and the offset, each with a space after it.
@@ -90,14 +81,15 @@ fn put_place(out: &mut [u8], at: usize, records: usize, offset: usize) -> usize
 }
 
 // The field's number and both values.
-fn put_difference(out: &mut [u8], at: usize, field: Field, recorded: u64, present: u64) -> usize
+fn put_difference(out: &mut [u8], at: usize, difference: Difference) -> usize
     requires { at + 63 ≤ length out.old }
-    ensures put { Put out.old at (difference_text field recorded present) out.new result }
+    ensures put { Put out.old at (difference_text difference) out.new result }
     ensures upper_bound { result ≤ at + 63 }
 {
+    let field = difference.field;
     let p = text::put_decimal(out, at, field.number() as u64, b' ');
-    let q = put_value(out, p, field, recorded, b' ');
-    put_value(out, q, field, present, b'\n')
+    let q = put_value(out, p, field, difference.recorded, b' ');
+    put_value(out, q, field, difference.present, b'\n')
 }
 
 fn put_verdict(out: &mut [u8], verdict: Playback) -> usize
@@ -113,13 +105,11 @@ fn put_verdict(out: &mut [u8], verdict: Playback) -> usize
         Playback::Differs {
             records,
             offset,
-            field,
-            recorded,
-            present,
+            difference,
         } => {
             let p = text::put(out, 0, b"differs ");
             let q = put_place(out, p, records, offset);
-            put_difference(out, q, field, recorded, present)
+            put_difference(out, q, difference)
         }
         Playback::Refused {
             refusal,
@@ -128,7 +118,7 @@ fn put_verdict(out: &mut [u8], verdict: Playback) -> usize
         } => {
             let p = text::put(out, 0, b"refused ");
             let q = put_place(out, p, records, offset);
-            text::put_decimal(out, q, refusal as u64, b'\n')
+            text::put_decimal(out, q, refusal.number() as u64, b'\n')
         }
     }
 }
@@ -139,11 +129,7 @@ fn put_verdict(out: &mut [u8], verdict: Playback) -> usize
 fn may_go_on(is_last: bool, left: usize) -> bool
     ensures { result ≡ may_go_on is_last left }
 {
-    if is_last {
-        false
-    } else {
-        left < Record::LONGEST
-    }
+    !is_last && left < Record::LONGEST
 }
 
 // A block whose records all agree: the input goes on behind it, or ends there.
@@ -164,7 +150,7 @@ fn after_agreeing(records: usize, long: usize, is_last: bool, reached: Reached) 
 
 // A block with a record that was refused at an index: it may be cut off there, or is none.
 fn after_refusal(
-    refusal: u8,
+    refusal: Refusal,
     records: usize,
     at: usize,
     long: usize,
@@ -199,20 +185,12 @@ fn course_of(verdict: Playback, long: usize, is_last: bool, reached: Reached) ->
         Playback::Differs {
             records,
             offset,
-            field,
-            recorded,
-            present,
-        } => {
-            let records = reached.records + records;
-            let offset = reached.offset + offset;
-            Course::Ended(Playback::Differs {
-                records,
-                offset,
-                field,
-                recorded,
-                present,
-            })
-        }
+            difference,
+        } => Course::Ended(Playback::Differs {
+            records: reached.records + records,
+            offset: reached.offset + offset,
+            difference,
+        }),
         Playback::Refused {
             refusal,
             records,
@@ -226,8 +204,7 @@ fn played(block: &[u8], is_last: bool, reached: Reached) -> Course
     requires { Room (length block.now) reached }
     ensures { Goes block.now is_last reached result }
 {
-    let verdict = playback::play_back(block);
-    course_of(verdict, block.len(), is_last, reached)
+    course_of(playback::play_back(block), block.len(), is_last, reached)
 }
 
 // Writes the verdict.
@@ -237,36 +214,27 @@ fn tell(mut output: Stdout, verdict: Playback) {
     output.write_all(&line[..n]).ok();
 }
 
-fn ended() -> Turn
-    ensures { (result.is_open ≡ false) × Bounded 0 0 result }
-{
-    Turn {
-        kept: 0,
-        reached: Reached {
-            records: 0,
-            offset: 0,
-        },
-        is_open: false,
-    }
-}
-
-// Plays back the bytes up to an index, and moves what may be cut off there to the front.
-fn next_turn(output: Stdout, block: &mut [u8], end: usize, is_last: bool, reached: Reached) -> Turn
+// Plays back the bytes up to an index, and moves what may be cut off there to the front; None where the verdict was told.
+fn next_turn(
+    output: Stdout,
+    block: &mut [u8],
+    end: usize,
+    is_last: bool,
+    reached: Reached,
+) -> Option<Turn>
     requires { (end ≤ length block.old) × Room end reached }
-    ensures follows { Follows (take end block.old) is_last reached block.new result }
-    ensures bounded { Bounded (reached.offset + end) (reached.records + end) result }
+    ensures follows { IfSome result (Follows (take end block.old) is_last reached block.new) }
+    ensures bounded { IfSome result (Bounded (reached.offset + end) (reached.records + end)) }
 {
-    let course = played(&block[..end], is_last, reached);
-    match course {
+    match played(&block[..end], is_last, reached) {
         Course::Ended(verdict) => {
             tell(output, verdict);
-            ended()
+            None
         }
-        Course::Open { at, reached: next } => Turn {
+        Course::Open { at, reached: next } => Some(Turn {
             kept: blocks::move_to_front(block, at, end),
             reached: next,
-            is_open: true,
-        },
+        }),
     }
 }
 
@@ -278,22 +246,19 @@ fn read_some(mut input: Stdin, room: &mut [u8]) -> Option<usize>
 }
 
 // Reads what comes behind the bytes that are left, and plays it back.
-fn read_block(input: Stdin, output: Stdout, block: &mut [u8], kept: usize, reached: Reached) -> Turn
-    requires kept_le_longest_record { (kept ≤ longest_record) × (block_length ≡ length block.old) }
-    requires offset_le_most_bytes { (reached.offset ≤ most_bytes_in_all) × (reached.records ≤ most_bytes_in_all) }
-    ensures { Bounded (reached.offset + kept + block_length) (reached.records + block_length) result }
+fn read_block(input: Stdin, output: Stdout, block: &mut [u8], turn: Turn) -> Option<Turn>
+    requires kept_le_longest_record { (turn.kept ≤ longest_record) × (block_length ≡ length block.old) }
+    requires offset_le_most_bytes { (turn.reached.offset ≤ most_bytes_in_all) × (turn.reached.records ≤ most_bytes_in_all) }
+    ensures { IfSome result (Bounded (turn.reached.offset + turn.kept + block_length) (turn.reached.records + block_length)) }
 {
-    let Some(n) = read_some(input, &mut block[kept..]) else {
-        return ended();
-    };
-    if n == 0 {
-        return next_turn(output, block, kept, true, reached);
-    }
-    next_turn(output, block, kept + n, false, reached)
+    let n = read_some(input, &mut block[turn.kept..])?;
+    next_turn(output, block, turn.kept + n, n == 0, turn.reached)
 }
 
-// A proved loop has to end, and nothing says that the input does: so the turns are counted down, from a number that no
-// run uses up, 2^46. With blocks of 2^16 bytes every sum stays below 2^64.
+// A proved loop has to end, and nothing says that the input does: so it takes no more blocks than this, a number that no run uses
+// up, 2^46. With blocks of 2^16 bytes every sum stays below 2^64.
+const MOST_BLOCKS: u64 = 70368744177664;
+
 fn main(rt: HostRuntime) {
     let input = rt.stdin();
     let output = rt.stdout();
@@ -304,12 +269,11 @@ fn main(rt: HostRuntime) {
             records: 0,
             offset: 0,
         },
-        is_open: true,
     };
-    let mut turns = 70368744177664u64;
-    while turns > 0 && turn.is_open {
-        let reached = turn.reached;
-        turn = read_block(input, output, &mut block, turn.kept, reached);
-        turns -= 1;
+    for _i in 0..MOST_BLOCKS {
+        let Some(next) = read_block(input, output, &mut block, turn) else {
+            return;
+        };
+        turn = next;
     }
 }

@@ -1,8 +1,9 @@
 -- Records as C writes and reads them: a call and its answer as numbers and buffers. Definitions only.
-use Rattle.std.specs.Prelude.{ℕ, ◌-◌, cond, List, [], ◌∷◌, eqb, ltb, length, take, get_or, Float}
+use Rattle.std.specs.Prelude.{ℕ, ◌-◌, cond, List, [], ◌∷◌, eqb, ltb, length, take, get_or, Float, Option, None, Some, Result, Ok, Err}
 use Rattle.std.specs.Float.{nan}
 use Rattle.doubles.specs.Doubles.{nought}
-use Rattle.numerical.specs.Answers.{kind_of, numbers_of}
+use Rattle.numerical.specs.Answers.{kind_of, numbers_of, counts_of}
+use Rattle.numerical.specs.Answers as numerical
 use Rattle.numerical.specs.declared.Answer.{Answer}
 use Rattle.numerical.specs.declared.Answer.TheVariants.{ByValue, ByWidth, Refused}
 use Rattle.numerical.specs.declared.Outcome.{Outcome}
@@ -11,14 +12,12 @@ use Rattle.simple_convergency.specs.declared.Tolerances.{Tolerances}
 use Rattle.roots.specs.Methods.{method_number}
 use Rattle.roots.specs.declared.Method.{Method}
 use Rattle.roots.specs.declared.Method.TheVariants.{Brent, RegulaFalsi, Secant, NewtonRaphson, Polynom}
-use Rattle.records.specs.Records.{between, padded, progress_of, written_to, left_by, reading_of}
+use Rattle.records.specs.Records.{between, blank, padded, progress_of, refusal_number, written_to, left_by, reading_of}
 use Rattle.records.specs.declared.Record.{Record}
-use Rattle.records.specs.declared.Verdict.{Verdict}
-use Rattle.records.specs.declared.Verdict.TheVariants as verdict
-use Rattle.roots_c.specs.Flat.{chosen_by, counts_of}
-use Rattle.roots_c.specs.Flat as flat
-use Rattle.roots_c.specs.declared.Chosen.{Chosen}
-use Rattle.roots_c.specs.declared.Chosen.TheVariants.{Known, Unknown}
+use Rattle.records.specs.declared.Reading.{Reading}
+use Rattle.records.specs.declared.Refusal.{Refusal}
+use Rattle.records.specs.declared.Refusal.TheVariants.{NoRecord}
+use Rattle.roots_c.specs.Flat.{chosen_by}
 
 -- ---- what is written
 
@@ -45,28 +44,28 @@ abbrev pub record_from : ℕ → List Float → Method → Tolerances → ℕ �
 record_from recordKind a method tolerances limit outcome = record { kind = recordKind; coefficients = padded (take most_coefficients a); count = length a; method = method; tolerances = tolerances; limit = limit; outcome = outcome }
 
 -- 0, or the refusal's number
-abbrev pub refusal_of : Verdict → ℕ
-refusal_of (verdict.Bytes n) = 0
-refusal_of (verdict.Refused n) = n
+abbrev pub refusal_of : {A : Type 0} → Result A Refusal → ℕ
+refusal_of (Ok done) = 0
+refusal_of (Err refusal) = refusal_number refusal
 
 -- the record's bytes, or 0 where it is refused
-abbrev pub bytes_in : Verdict → ℕ
-bytes_in (verdict.Bytes n) = n
-bytes_in (verdict.Refused n) = 0
+abbrev pub bytes_in : Result ℕ Refusal → ℕ
+bytes_in (Ok n) = n
+bytes_in (Err refusal) = 0
 
 -- an unknown method has no record
 module _ (recordKind : ℕ) (a : List Float) (tolerances : Tolerances) (limit : ℕ) (outcome : Outcome) (before : List ℕ) where
-  abbrev pub verdict_for : Chosen → Verdict
-  verdict_for (Known method) = written_to (record_from recordKind a method tolerances limit outcome) (length before)
-  verdict_for Unknown = verdict.Refused 11
+  abbrev pub verdict_for : Option Method → Result ℕ Refusal
+  verdict_for (Some method) = written_to (record_from recordKind a method tolerances limit outcome) (length before)
+  verdict_for None = Err NoRecord
 
-  abbrev pub left_for : Chosen → List ℕ
-  left_for (Known method) = left_by (record_from recordKind a method tolerances limit outcome) before (written_to (record_from recordKind a method tolerances limit outcome) (length before))
-  left_for Unknown = before
+  abbrev pub left_for : Option Method → List ℕ
+  left_for (Some method) = left_by (record_from recordKind a method tolerances limit outcome) before (written_to (record_from recordKind a method tolerances limit outcome) (length before))
+  left_for None = before
 
 -- the call that C makes: what it says, and what it leaves in the buffer
 module _ (recordKind : ℕ) (a : List Float) (method : ℕ) (first second value point : Float) (limit kind : ℕ) (numbers : List Float) (tallies before : List ℕ) where
-  abbrev pub flat_verdict : Verdict
+  abbrev pub flat_verdict : Result ℕ Refusal
   flat_verdict = verdict_for recordKind a (tolerances_of value point) limit (outcome_from kind numbers tallies) before (chosen_by method first second)
 
   abbrev pub flat_bytes : List ℕ
@@ -83,25 +82,30 @@ points_of (NewtonRaphson start) t = start ∷ nought ∷ t.value ∷ t.point ∷
 points_of (Polynom from to) t = from ∷ to ∷ t.value ∷ t.point ∷ []
 
 -- length, method, count, limit, the answer's kind, the record's kind; all zero beside a refusal
-abbrev pub words_of : Verdict → Record → List ℕ
-words_of (verdict.Bytes n) r = n ∷ method_number r.method ∷ r.count ∷ r.limit ∷ kind_of r.outcome.answer ∷ r.kind ∷ []
-words_of (verdict.Refused n) r = 0 ∷ 0 ∷ 0 ∷ 0 ∷ 0 ∷ 0 ∷ []
+abbrev pub words_of : Result Reading Refusal → List ℕ
+words_of (Ok reading) = reading.length ∷ method_number reading.content.method ∷ reading.content.count ∷ reading.content.limit ∷ kind_of reading.content.outcome.answer ∷ reading.content.kind ∷ []
+words_of (Err refusal) = 0 ∷ 0 ∷ 0 ∷ 0 ∷ 0 ∷ 0 ∷ []
+
+-- what stands beside a refusal is the blank record
+abbrev pub content_of : Result Reading Refusal → Record
+content_of (Ok reading) = reading.content
+content_of (Err refusal) = blank
 
 module _ (bytes : List ℕ) where
   abbrev pub read_refusal : ℕ
-  read_refusal = refusal_of (reading_of bytes).verdict
+  read_refusal = refusal_of (reading_of bytes)
 
   abbrev pub read_coefficients : List Float
-  read_coefficients = (reading_of bytes).content.coefficients
+  read_coefficients = (content_of (reading_of bytes)).coefficients
 
   abbrev pub read_points : List Float
-  read_points = points_of (reading_of bytes).content.method (reading_of bytes).content.tolerances
+  read_points = points_of (content_of (reading_of bytes)).method (content_of (reading_of bytes)).tolerances
 
   abbrev pub read_numbers : List Float
-  read_numbers = flat.padded (numbers_of (reading_of bytes).content.outcome.answer)
+  read_numbers = numerical.padded (numbers_of (content_of (reading_of bytes)).outcome.answer)
 
   abbrev pub read_tallies : List ℕ
-  read_tallies = counts_of (reading_of bytes).content.outcome.progress
+  read_tallies = counts_of (content_of (reading_of bytes)).outcome.progress
 
   abbrev pub read_words : List ℕ
-  read_words = words_of (reading_of bytes).verdict (reading_of bytes).content
+  read_words = words_of (reading_of bytes)

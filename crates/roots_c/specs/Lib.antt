@@ -1,5 +1,3 @@
 -- What the contracts of `roots_c` cite.
 pub mod Flat
 pub mod FlatRecords
--- what proofs cite
-pub mod FlatRecordLaws

@@ -76,7 +76,7 @@ above_inv g (found m u) n t h = go (eqb m 0) refl h
     go false e q = (m, cc, (let f = eqb-false m 0 e in omega arith), cc)
 
 -- none is no number
-none_found : {A : Type 0} {n : ℕ} {t : List ℕ} → none ≡ found n t → A
+pub none_found : {A : Type 0} {n : ℕ} {t : List ℕ} → none ≡ found n t → A
 none_found h = absurd (let z : ◌≡◌ {A = ℕ} 0 1 = cc in omega arith)
 
 tenth : (b : ℕ) (s : List ℕ) (n : ℕ) (t : List ℕ) (x : Bool) → ltb b 2 ≡ x → cond x (found b s) none ≡ found n t → Spelled 0 (b ∷ s) n t

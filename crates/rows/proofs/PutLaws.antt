@@ -1,6 +1,6 @@
 -- Bytes put one after the other, and a number group by group.
 use Rattle.std.specs.Prelude.{ℕ, zero, suc, ◌+◌, ◌/◌, ◌%◌, ◌^◌, ◌≤◌, ◌<◌, List, [], ◌∷◌, ◌++◌, ◌≡◌, refl, length, take, drop, set}
-use Rattle.std.proofs.Common.{add-one, arith, append_assoc, append-nil, sym, ap, ◌∙◌, length-set, length-append, length-drop, take-append-drop, length-take-le, take_at, drop_at, drop-drop}
+use Rattle.std.proofs.Common.{add-one, arith, append_assoc, append-nil, sym, ap, ◌∙◌, length-append, length-drop, take-append-drop, length-take-le, take_at, drop_at, drop-drop}
 use Rattle.std.proofs.lemmas.List.{set_split}
 use Rattle.rows.specs.Groups.{groups_in, groups}
 use Rattle.rows.specs.GroupLaws.{limit_in}
@@ -64,11 +64,8 @@ unfolding groups
 put_starts a at n h l = record { done = []; left = 9; room = h; count = refl; holds = l; is = refl; put = put_nothing a at (omega arith) }
 
 module _ {a : List ℕ} {at n : ℕ} {b : List ℕ} {m p : ℕ} (g : Putting a at n b m p) where
-  pub room_left : p < length b
+  room_left : p < length b
   room_left = let l = put_length g.put in let c = g.count in let r = g.room in omega arith
-
-  pub one_length : (x : ℕ) → length (set b p x) ≡ length a
-  one_length x = length-set b p x ∙ put_length g.put
 
   pub put_last : m < 128 → Put a at (groups n) (set b p m) (p + 1)
   put_last h = rw (g.is ∙ ap (λ (l : List ℕ). g.done ++ l) (last g.left m h g.holds)) (put_both g.put (put_one b p m room_left))

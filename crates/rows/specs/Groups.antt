@@ -1,7 +1,6 @@
 -- A number in groups of seven bits, lowest group first, top bit set when another follows. Definitions only.
-use Rattle.std.specs.Prelude.{ℕ, zero, suc, ◌+◌, ◌-◌, ◌*◌, ◌/◌, ◌%◌, ◌≤◌, cond, List, [], ◌∷◌, ◌≡◌, ltb, eqb, length, drop, get_or}
+use Rattle.std.specs.Prelude.{ℕ, zero, suc, ◌+◌, ◌-◌, ◌*◌, ◌/◌, ◌%◌, ◌≤◌, cond, List, [], ◌∷◌, ◌≡◌, ltb, eqb, length, drop, get_or, Option, Some, None}
 use Rattle.rows.specs.declared.Taken.{Taken}
-use Rattle.rows.specs.declared.Taken.TheVariants.{Is, Wrong}
 
 -- ---- writing
 
@@ -42,10 +41,10 @@ pub record TookOne (s : List ℕ) (at n p : ℕ) : Type 0 where
   pub within : p ≤ length s
   pub is : number_of (drop at s) ≡ found n (drop p s)
 
-abbrev pub Took : List ℕ → ℕ → Taken → Type 0
-Took s at (Is n p) = TookOne s at n p
-Took s at Wrong = number_of (drop at s) ≡ none
+abbrev pub Took : List ℕ → ℕ → Option (Taken ℕ) → Type 0
+Took s at (Some taken) = TookOne s at taken.value taken.next
+Took s at None = number_of (drop at s) ≡ none
 
 -- the tenth group at p, behind nine that make v: 1, of weight w
-unfoldable pub tenth_at : List ℕ → ℕ → ℕ → ℕ → Taken
-tenth_at s p v w = cond (ltb p (length s)) (cond (eqb (get_or s p 0) 1) (Is (v + w) (p + 1)) Wrong) Wrong
+unfoldable pub tenth_at : List ℕ → ℕ → ℕ → ℕ → Option (Taken ℕ)
+tenth_at s p v w = cond (ltb p (length s)) (cond (eqb (get_or s p 0) 1) (Some (record { value = v + w; next = p + 1 })) None) None

@@ -6,77 +6,58 @@ ghost use Rattle.std.specs.Prelude.{◌+◌, ◌<◌, ◌≤◌, length, ◌≡�
 ghost use Rattle.rows.specs.Groups.{Took, groups, tenth_at};
 ghost use Rattle.rows.specs.Puts.{Put};
 
-// The number that stands at an index, and where it ends.
-#[derive(Clone, Copy)]
-pub enum Taken {
-    Is { n: u64, next: usize },
-    Wrong,
-}
-
-// A byte as a number of 64 bits.
-fn wide(b: u8) -> u64
-    ensures { (result ≡ b) × (result < 256) }
-{
-    b as u64
+// What stands at an index, and where it ends.
+#[derive(Clone, Copy, Debug, PartialEq, Eq)]
+pub struct Taken<T> {
+    pub value: T,
+    pub next: usize,
 }
 
 // The tenth group, at p, behind nine that make v: it is the bit of weight w, and is not needless.
-fn take_tenth(s: &[u8], p: usize, v: u64, w: u64) -> Taken
+#[tactic(auto, unfolding(crate::specs::Groups::tenth_at))]
+fn take_tenth(s: &[u8], p: usize, v: u64, w: u64) -> Option<Taken<u64>>
     requires { v + w < 18446744073709551616 }
     ensures { result ≡ tenth_at s.now p v w }
 {
-    if s.len() <= p {
-        return Taken::Wrong;
-    }
-    if s[p] == 1 {
-        Taken::Is {
-            n: v + w,
+    if *s.get(p)? == 1 {
+        Some(Taken {
+            value: v + w,
             next: p + 1,
-        }
+        })
     } else {
-        Taken::Wrong
+        None
     }
 }
 
 // The number at an index: the first group, up to eight more of seven bits, and a tenth of one bit, since ten groups hold
 // more than 64 bits.
-pub fn take(s: &[u8], at: usize) -> Taken
+pub fn take(s: &[u8], at: usize) -> Option<Taken<u64>>
     ensures { Took s.now at result }
 {
-    if s.len() <= at {
-        return Taken::Wrong;
-    }
-    let first = wide(s[at]);
+    let first = u64::from(*s.get(at)?);
     if first < 128 {
-        return Taken::Is {
-            n: first,
+        return Some(Taken {
+            value: first,
             next: at + 1,
-        };
+        });
     }
     let mut v = first - 128;
     let mut w = 128u64;
-    let mut p = at + 1;
-    let mut i = 1usize;
-    while i < 9 {
-        if s.len() <= p {
-            return Taken::Wrong;
-        }
-        let b = wide(s[p]);
+    for p in at + 1..at + 9 {
+        let b = u64::from(*s.get(p)?);
         if b == 0 {
-            return Taken::Wrong;
+            return None;
         }
         if b < 128 {
-            return Taken::Is {
-                n: v + w * b,
+            return Some(Taken {
+                value: v + w * b,
                 next: p + 1,
-            };
+            });
         }
         v += w * (b - 128);
         w *= 128;
-        p += 1;
-        i += 1;
     }
-    take_tenth(s, p, v, w)
+    take_tenth(s, at + 9, v, w)
 }
 
 // Puts n at an index, and answers where it ends.
@@ -86,6 +67,7 @@ pub fn put(n: u64, out: &mut [u8], at: usize) -> usize
 {
     let mut m = n;
     let mut p = at;
+    // not a `for`: m alone says how many groups there are
     while 128 <= m {
         out[p] = (m % 128 + 128) as u8;
         m = m / 128;

@@ -5,14 +5,14 @@ use Rattle.playback.proofs.play_back.Goals as goal
 pub loop-at-init : goal.loop-at-init
 loop-at-init c = search play_starts
 
-pub returns-in_default : goal.returns-in_default
-returns-in_default c = search play_refused
+pub returns-in-Err : goal.returns-in-Err
+returns-in-Err c = search play_refused
 
-pub compared-comparison-requires : goal.compared-comparison-requires
-compared-comparison-requires c = search play_few
+pub compared-requires : goal.compared-requires
+compared-requires c = search play_few
 
-pub returns-in-Differs : goal.returns-in-Differs
-returns-in-Differs c = search play_differs
+pub returns-in-Some : goal.returns-in-Some
+returns-in-Some c = search play_differs
 
 pub overflow_add-at : goal.overflow_add-at
 overflow_add-at c = search (play_fits, rules)

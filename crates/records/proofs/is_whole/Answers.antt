@@ -1,8 +1,8 @@
 use Rattle.records.proofs.WriteLaws.{whole_not, whole_if}
 use Rattle.records.proofs.is_whole.Goals as goal
 
-pub returns-in_default : goal.returns-in_default
-returns-in_default c = search whole_not
+pub returns-in-Ok : goal.returns-in-Ok
+returns-in-Ok c = whole_if _ c.in-Ok.ensures
 
-pub returns : goal.returns
-returns c = search whole_if
+pub returns-in-Err : goal.returns-in-Err
+returns-in-Err c = whole_not _ c.in-Err.ensures

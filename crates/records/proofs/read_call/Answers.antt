@@ -1,27 +1,34 @@
-use Rattle.records.proofs.PartLaws.{no_head, no_count, no_coefficients, no_rule, call_is, if_place, room_for, method_fits, filled_place}
-use borrow.Author.Rules.{rules}
+use Rattle.std.proofs.Common.{rules, ◌∙◌, sym, length-take-le}
+use Rattle.records.proofs.ReadLaws.{room_for, place}
+use Rattle.records.proofs.PartLaws.{filled, not_filled, no_head, no_count, no_coefficients, no_rule, call_is}
 use Rattle.records.proofs.read_call.Goals as goal
 
-pub returns-in_default : goal.returns-in_default
-returns-in_default c = search no_head
+pub returns-in_err-head : goal.returns-in_err-head
+returns-in_err-head c = rw c.from_residual.ensures (no_head _ c.in_err-head.ensures)
 
-pub returns-in_default-take_within : goal.returns-in_default-take_within
-returns-in_default-take_within c = search no_count
+pub returns-in_err-many : goal.returns-in_err-many
+returns-in_err-many c = rw c.from_residual-in_err-many.ensures (no_count _ c.in_ok-head.ensures c.in_err-many.ensures)
 
-pub take_doubles-requires : goal.take_doubles-requires
-take_doubles-requires c = (search if_place, search room_for)
+pub slice_bounds-coefficients-end : goal.slice_bounds-coefficients-end
+slice_bounds-coefficients-end c = room_for 1 16 c.in_ok-many.ensures (search rules)
 
-pub returns-in_default-take_doubles : goal.returns-in_default-take_doubles
-returns-in_default-take_doubles c = search no_coefficients
+pub slice_bounds-take_doubles-end : goal.slice_bounds-take_doubles-end
+slice_bounds-take_doubles-end c = sym (length-take-le _ _ (room_for 1 16 c.in_ok-many.ensures (search rules)))
 
-pub overflow_cast-m : goal.overflow_cast-m
-overflow_cast-m c = search (method_fits, rules)
+pub returns-in_err-p : goal.returns-in_err-p
+returns-in_err-p c =
+    let few = room_for 1 16 c.in_ok-many.ensures (search rules) in
+    rw c.from_residual-in_err-p.ensures (no_coefficients _ c.in_ok-head.ensures c.in_ok-many.ensures (not_filled _ few c.in_err-p.ensures))
 
 pub read_rule-requires : goal.read_rule-requires
-read_rule-requires c = search filled_place
+read_rule-requires c = place c.in_ok-p.ensures
 
-pub returns-in_default-read_rule : goal.returns-in_default-read_rule
-returns-in_default-read_rule c = search no_rule
+pub returns-in_err-rule : goal.returns-in_err-rule
+returns-in_err-rule c =
+    let few = room_for 1 16 c.in_ok-many.ensures (search rules) in
+    rw c.from_residual-in_err-rule.ensures (no_rule _ c.in_ok-head.ensures c.in_ok-many.ensures (filled _ few c.in_ok-p.ensures) c.in_err-rule.ensures)
 
 pub returns : goal.returns
-returns c = search call_is
+returns c =
+    let few = room_for 1 16 c.in_ok-many.ensures (search rules) in
+    call_is _ c.in_ok-head.ensures c.in_ok-many.ensures (filled _ few c.in_ok-p.ensures) c.in_ok-rule.ensures (c.take_doubles.auto.a ∙ length-take-le _ _ few)

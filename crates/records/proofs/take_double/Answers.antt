@@ -1,11 +1,9 @@
-use Rattle.records.proofs.ReadLaws.{tests}
+use Rattle.std.proofs.Common.{rules}
+use Rattle.records.proofs.ReadLaws.{double_held, double_missed}
 use Rattle.records.proofs.take_double.Goals as goal
 
-pub returns-in_default : goal.returns-in_default
-returns-in_default c = search tests
+pub returns-in_err-bits : goal.returns-in_err-bits
+returns-in_err-bits g c = λ ok d. rw c.from_residual.ensures (double_missed (c.in_err-bits.ensures ok d))
 
-pub returns-then-is_finite : goal.returns-then-is_finite
-returns-then-is_finite c = search tests
-
-pub returns-else-is_finite : goal.returns-else-is_finite
-returns-else-is_finite c = search tests
+pub returns : goal.returns
+returns g c = λ ok d. double_held (c.in_ok-bits.ensures ok d) (search rules)

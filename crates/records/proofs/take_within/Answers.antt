@@ -1,14 +1,7 @@
-use Rattle.records.proofs.ReadLaws.{tests}
+use Rattle.std.proofs.Common.{rules}
+use Rattle.records.specs.Records.{between}
 use Rattle.records.proofs.take_within.Goals as goal
 
-pub returns-in_default : goal.returns-in_default
-returns-in_default c = search tests
-
-pub returns-then-n-least : goal.returns-then-n-least
-returns-then-n-least c = search tests
-
-pub returns-then-most-n : goal.returns-then-most-n
-returns-then-most-n c = search tests
-
 pub returns : goal.returns
-returns c = search tests
+unfolding between
+returns c = c.take_if.ensures (between c.args.least c.args.most) (λ n h b p. search rules)

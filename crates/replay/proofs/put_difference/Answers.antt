@@ -1,6 +1,7 @@
-use Rattle.replay.proofs.CourseLaws.{difference_put}
-use borrow.Author.Rules.{rules}
+use Rattle.line_text.specs.TextLaws.{put_both}
+use Rattle.replay.specs.VerdictTexts.{difference_text}
 use Rattle.replay.proofs.put_difference.Goals as goal
 
-pub returns : goal.returns
-returns c = record { put = search difference_put; upper_bound = search rules }
+pub returns-clause-put : goal.returns-clause-put
+unfolding difference_text
+returns-clause-put c = let e = c.number.ensures in let p = rw e at c.put_decimal-p.ensures.put in search put_both

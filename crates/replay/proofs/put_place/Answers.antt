@@ -1,6 +1,7 @@
-use Rattle.replay.proofs.CourseLaws.{place_put}
-use borrow.Author.Rules.{rules}
+use Rattle.line_text.specs.TextLaws.{put_both}
+use Rattle.replay.specs.VerdictTexts.{place_text}
 use Rattle.replay.proofs.put_place.Goals as goal
 
-pub returns : goal.returns
-returns c = record { put = search place_put; upper_bound = search rules }
+pub returns-clause-put : goal.returns-clause-put
+unfolding place_text
+returns-clause-put c = search put_both

@@ -1,12 +1,11 @@
 use borrow.Author.Rules.{rules}
-use Rattle.line_text.specs.ReadingLaws.{filled_within, doubles_wrong, doubles_read}
+use Rattle.std.proofs.Common.{Err, ◌≡◌}
+use Rattle.line_text.specs.declared.call.Fault.TheVariants.{Number}
+use Rattle.line_text.specs.ReadingLaws.{doubles_wrong, doubles_read}
 use Rattle.line_text.proofs.call.with_doubles.Goals as goal
 
-pub with_limit-requires : goal.with_limit-requires
-with_limit-requires c = (search filled_within, search rules)
+pub returns-in_err-p : goal.returns-in_err-p
+returns-in_err-p c = let e : c.from_residual.result ≡ Err Number = search rules in search (doubles_wrong, c.in_err-p.ensures)
 
-pub returns-in-At : goal.returns-in-At
-returns-in-At c = search doubles_read
-
-pub returns-in-Wrong : goal.returns-in-Wrong
-returns-in-Wrong c = search doubles_wrong
+pub returns : goal.returns
+returns c = search (doubles_read, c.in_ok-p.ensures)

@@ -1,29 +1,21 @@
-use mathlib.Core.Path.{refl}
-use native.Mathlib.Omega.{arith}
 use borrow.Author.Rules.{rules}
-use Rattle.line_text.specs.DigitLaws.{next_held, next_fits, times_fits, number_on, number_no_digit, number_too_large, number_end}
+use Rattle.line_text.specs.DigitLaws.{number_no_digit, number_large_digit, number_no_product, number_no_sum, number_on, number_end}
 use Rattle.line_text.proofs.digits.number_in.Goals as goal
 
-pub loop-i-init : goal.loop-i-init
-loop-i-init c = (search rules, search rules, refl)
-
-pub bounds-t-i : goal.bounds-t-i
-bounds-t-i c = omega arith
+pub returns-in_err-d : goal.returns-in_err-d
+returns-in_err-d c = search (number_no_digit, c.in_err-d.was)
 
 pub returns-then-base-d : goal.returns-then-base-d
-returns-then-base-d c = search number_no_digit
+returns-then-base-d c = search (number_large_digit, c.in_ok-d.was)
 
-pub returns-then-d-base : goal.returns-then-d-base
-returns-then-d-base c = search number_too_large
+pub returns-in_err-checked_mul : goal.returns-in_err-checked_mul
+returns-in_err-checked_mul c = search (number_no_product, c.in_ok-d.was, c.in_err-checked_mul.ensures)
 
-pub overflow_mul-v : goal.overflow_mul-v
-overflow_mul-v c = times_fits c.if-d-base.false (search rules) (search rules) (search rules)
+pub returns-in_err-v : goal.returns-in_err-v
+returns-in_err-v c = search (number_no_sum, c.in_ok-d.was, c.in_ok-checked_mul.ensures, c.in_err-v.ensures)
 
-pub overflow_add-v : goal.overflow_add-v
-overflow_add-v c = search next_fits
-
-pub loop-i-preserved : goal.loop-i-preserved
-loop-i-preserved c = (search rules, search next_held, search number_on)
+pub loop-b-preserved : goal.loop-b-preserved
+loop-b-preserved c = (search rules, search (number_on, c.in_ok-d.was, c.in_ok-checked_mul.ensures, c.in_ok-v.ensures))
 
 pub returns : goal.returns
 returns c = search number_end

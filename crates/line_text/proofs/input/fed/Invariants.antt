@@ -1,11 +1,8 @@
 use mathlib.Core.Path.{◌≡◌}
-use Prim.Native.Nat.{◌≤◌, ◌+◌, ◌-◌}
+use Prim.Native.Nat.{◌≤◌, ◌+◌}
 use lib.ListN.{length}
 use Rattle.line_text.specs.Inputs.{Fed, stops_at}
 use Rattle.line_text.proofs.input.fed.Given as goal
 
 abbrev pub invariant-loop-i : goal.invariant-loop-i
 invariant-loop-i l = (length l.line ≡ length l.initial.line) × (length l.out ≡ length l.initial.out) × (l.s.waiting + 156 ≤ length l.out) × Fed l.block l.from l.initial.line l.initial.out l.initial.s l.i l.line l.out l.s × (stops_at l.block l.i l.line l.out l.s ≡ stops_at l.block l.from l.initial.line l.initial.out l.initial.s)
-
-abbrev pub decreases-loop-i : goal.decreases-loop-i
-decreases-loop-i l = length l.block - l.i

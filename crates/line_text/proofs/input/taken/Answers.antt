@@ -1,9 +1,5 @@
 use Rattle.line_text.specs.InputLaws.{taken_end, taken_kept, taken_lost}
-use Rattle.line_text.specs.ReplyLaws.{count_of_part}
 use Rattle.line_text.proofs.input.taken.Goals as goal
-
-pub slice_bounds-put_line-end-then-b-eq10 : goal.slice_bounds-put_line-end-then-b-eq10
-slice_bounds-put_line-end-then-b-eq10 c = search count_of_part
 
 pub returns-then-b-eq10 : goal.returns-then-b-eq10
 returns-then-b-eq10 c = search taken_end

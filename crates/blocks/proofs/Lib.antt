@@ -1,2 +1,0 @@
--- The laws about what specs/ defines, and the lemmas of the proofs.
-pub mod BlockLaws

@@ -1,0 +1,13 @@
+-- What was put into a draft. Definitions only.
+use Rattle.std.specs.Prelude.{ℕ, List}
+use Rattle.rows.specs.Puts.{PutRow}
+use Rattle.records.specs.declared.Draft.{Draft}
+
+-- the numbers stand behind what stood there before
+abbrev pub Puts : List ℕ → Draft → Draft → Type 0
+Puts row before now = PutRow before.bytes before.length row now.bytes now.length
+
+-- the draft holds the numbers, and nothing else
+pub record Drawn (row : List ℕ) (draft : Draft) : Type 0 where
+  pub before : List ℕ
+  pub is : PutRow before 0 row draft.bytes draft.length

@@ -1,3 +1,0 @@
--- The laws about what specs/ defines, and the lemmas of the proofs.
-pub mod FlatLaws
-pub mod FlatRecordLaws
