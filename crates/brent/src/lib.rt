@@ -282,7 +282,15 @@ fn step_with(a: &[f64], s: Brent, bisecting: bool, guess: f64, progress: Progres
 {
     let x = used_of(bisecting, s, guess);
     if doubles::is_finite(x) {
-        pulled_in(a, Brent { flag: bisecting, ..s }, x, progress)
+        pulled_in(
+            a,
+            Brent {
+                flag: bisecting,
+                ..s
+            },
+            x,
+            progress,
+        )
     } else {
         Turn::refused(9, progress)
     }
