@@ -274,23 +274,15 @@ fn pulled_in(a: &[f64], s: Brent, x: f64, progress: Progress) -> Turn<Brent>
     landed(a, s, placed.x, placed.progress)
 }
 
-// Only the point that is used is refused or pulled; the flag is set before.
+// Only the point that is used is refused or pulled; the flag, whether the step bisects, is set before.
 #[tactic(auto, using(searching::proofs::StepLaws::steps), unfolding(crate::specs::Brent::step_with, crate::specs::Brent::pulled_in, crate::specs::Brent::landed, crate::specs::Brent::arrived, crate::specs::Brent::next_of))]
-fn step_with(a: &[f64], s: Brent, bisecting: bool, guess: f64, progress: Progress) -> Turn<Brent>
+fn step_with(a: &[f64], s: Brent, flag: bool, guess: f64, progress: Progress) -> Turn<Brent>
     requires { Room 2 progress }
-    ensures { viewed result ≡ play tallied (oracle a.now) (step_with s bisecting guess) progress }
+    ensures { viewed result ≡ play tallied (oracle a.now) (step_with s flag guess) progress }
 {
-    let x = used_of(bisecting, s, guess);
+    let x = used_of(flag, s, guess);
     if doubles::is_finite(x) {
-        pulled_in(
-            a,
-            Brent {
-                flag: bisecting,
-                ..s
-            },
-            x,
-            progress,
-        )
+        pulled_in(a, Brent { flag, ..s }, x, progress)
     } else {
         Turn::refused(9, progress)
     }
