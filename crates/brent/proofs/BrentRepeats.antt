@@ -1,7 +1,7 @@
 -- Only the count changed: with the Rust's evaluations the search ends as without them, with one value more for each step.
 use Prim.Native.Nat.{ℕ, zero, suc, ◌+◌}
 use Rattle.std.proofs.Common.{arith, ◌∙◌}
-use Rattle.std.specs.Prelude.{Bool, cond, List, ◌≡◌, Float}
+use Rattle.std.specs.Prelude.{Bool, cond, Option, Some, None, List, ◌≡◌, Float}
 use Rattle.std.proofs.Math.Bool.{true, false}
 use Rattle.std.proofs.Math.Path.{refl, ap}
 use Rattle.std.specs.Float.Ieee.Scale.{finite}
@@ -13,7 +13,6 @@ use Rattle.numerical.specs.declared.Interval.{Interval}
 use Rattle.numerical.specs.declared.Progress.{Progress}
 use Rattle.numerical.specs.declared.Sample.{Sample}
 use Rattle.polynom.specs.Polynom.{evaluated}
-use Rattle.std.specs.Prelude.{Option, Some, None}
 use Rattle.simple_convergency.specs.Stop.{turns_of}
 use Rattle.simple_convergency.specs.declared.StopRule.{StopRule}
 use Rattle.searching.proofs.Keeps.{ends_tallied}

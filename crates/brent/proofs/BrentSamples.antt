@@ -1,9 +1,8 @@
 -- At every state of a run of Brent's method the samples of the pair are what the evaluator gives at their points.
-use Rattle.std.specs.Prelude.{Bool, List, [], ◌∷◌, ◌≡◌, Float}
+use Rattle.std.specs.Prelude.{Bool, Some, List, [], ◌∷◌, ◌≡◌, Float}
 use Rattle.std.proofs.Common.{ap, ◌∙◌}
 use Rattle.numerical.specs.declared.Sample.{Sample}
 use Rattle.polynom.specs.Polynom.{evaluated}
-use Rattle.std.specs.Prelude.{Some}
 use Rattle.simple_convergency.specs.declared.StopRule.{StopRule}
 use Rattle.searching.specs.Programs.{ruled, Prog, Turned, oracle, Event, noted}
 use Rattle.searching.specs.Keeps.{Ends}

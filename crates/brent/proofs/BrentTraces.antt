@@ -1,10 +1,9 @@
 -- The opening of Brent's method, and a step up to the next pair, with their events in order.
-use Rattle.std.specs.Prelude.{Bool, List, [], ◌∷◌, ◌≡◌, Float}
+use Rattle.std.specs.Prelude.{Bool, Some, List, [], ◌∷◌, ◌≡◌, Float}
 use Rattle.std.proofs.Math.Logic.{inl, inr}
 use Rattle.std.proofs.Math.Path.{refl}
 use Rattle.std.proofs.Common.{◌∙◌}
 use Rattle.numerical.specs.declared.Sample.{Sample}
-use Rattle.std.specs.Prelude.{Some}
 use Rattle.simple_convergency.specs.declared.StopRule.{StopRule}
 use Rattle.searching.specs.Programs.{ruled, oracle, Event, asked, noted, Prog, Turned}
 use Rattle.searching.specs.Brackets.{pairs_in}

@@ -1,5 +1,5 @@
 -- What a turn of Brent's method adds at the most, for the loop of turns, and the bounds of its tallies.
-use Rattle.std.specs.Prelude.{ℕ, ◌+◌, ◌*◌, ◌≤◌, List, ◌≡◌, Float}
+use Rattle.std.specs.Prelude.{◌+◌, ◌*◌, ◌≤◌, List, ◌≡◌, Float}
 use Rattle.std.proofs.Common.{arith}
 use Rattle.std.proofs.Math.Nat.{le_refl}
 use Rattle.numerical.specs.Tallies.{fresh}

@@ -13,7 +13,7 @@ use Rattle.simple_convergency.specs.declared.StopRule.{StopRule}
 use Rattle.doubles.specs.Doubles.{above, below, absolute, opposite_sign}
 use Rattle.numerical.specs.Middle.{two}
 use Rattle.numerical.specs.Tallies.{ruled_of}
-use Rattle.searching.specs.Programs.{found, converged, ruled, Prog, log, Turned, ended, next, stops, answers, by_value, value_at, offered, pulled_into, differ, bracketed, narrows_to, searches, answer_of}
+use Rattle.searching.specs.Programs.{found, converged, ruled, Prog, log, Turned, stops, answers, by_value, value_at, offered, pulled_into, differ, bracketed, narrows_to, searches, answer_of}
 use Rattle.searching.specs.declared.Decided.{Decided}
 use Rattle.brent.specs.declared.Arranged.{Arranged}
 use Rattle.brent.specs.declared.Brent.{Brent}

@@ -1,8 +1,7 @@
 -- A state of Brent's method whose samples came from evaluations. Definitions only.
-use Rattle.std.specs.Prelude.{List, ◌≡◌, Float}
+use Rattle.std.specs.Prelude.{Some, List, ◌≡◌, Float}
 use Rattle.numerical.specs.declared.Answer.{Answer}
 use Rattle.polynom.specs.Polynom.{evaluated}
-use Rattle.std.specs.Prelude.{Some}
 use Rattle.searching.specs.Programs.{Turned, Event}
 use Rattle.searching.specs.Keeps.{After}
 use Rattle.brent.specs.declared.Brent.{Brent}

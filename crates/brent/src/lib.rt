@@ -199,28 +199,28 @@ fn used_of(bisecting: bool, s: Brent, x: f64) -> f64
 
 // The state after a step: its pair is a and b, the b before becomes c, and c becomes d.
 #[tactic(auto, unfolding(crate::specs::Brent::next_of))]
-fn moved(s: Brent, flag: bool, a: Sample, b: Sample) -> Brent
-    ensures { result ≡ next_of s flag (record { a = a; b = b }) }
+fn moved(s: Brent, a: Sample, b: Sample) -> Brent
+    ensures { result ≡ next_of s s.flag (record { a = a; b = b }) }
 {
     Brent {
         a,
         b,
         c: s.b,
         d: s.c.x,
-        flag,
+        ..s
     }
 }
 
 // A step to the two samples, arranged. Each case goes on by itself, which is faster than to choose both ends.
 #[tactic(auto, using(searching::proofs::StepLaws::steps), unfolding(crate::specs::Brent::arrange))]
-fn step_to(s: Brent, flag: bool, one: Sample, other: Sample, progress: Progress) -> Turn<Brent>
+fn step_to(s: Brent, one: Sample, other: Sample, progress: Progress) -> Turn<Brent>
     requires { Room 1 progress }
-    ensures { (cs : List Float) → viewed result ≡ play tallied (oracle cs) (completes s flag (arrange one other)) progress }
+    ensures { (cs : List Float) → viewed result ≡ play tallied (oracle cs) (completes s s.flag (arrange one other)) progress }
 {
     if doubles::abs(one.y) > doubles::abs(other.y) {
-        return Turn::next(moved(s, flag, one, other), progress.stepped());
+        return Turn::next(moved(s, one, other), progress.stepped());
     }
-    Turn::next(moved(s, flag, other, one), progress.stepped())
+    Turn::next(moved(s, other, one), progress.stepped())
 }
 
 // Rule 1: whether the values have opposite signs. The signs decide, and the product the mark alone: it is set where the product says otherwise.
@@ -239,50 +239,50 @@ fn opposite(p: Sample, q: Sample, progress: Progress) -> Decided
 
 // Where a has the sign opposite to that of the sample p, a is kept, otherwise b; the kept end has its value.
 #[tactic(auto, using(searching::proofs::StepLaws::steps), unfolding(crate::specs::Brent::arrived, crate::specs::Brent::pair_after, searching::specs::Programs::play))]
-fn arrived(s: Brent, flag: bool, p: Sample, progress: Progress) -> Turn<Brent>
+fn arrived(s: Brent, p: Sample, progress: Progress) -> Turn<Brent>
     requires { Room 1 progress }
-    ensures { (cs : List Float) → viewed result ≡ play tallied (oracle cs) (arrived s flag p) progress }
+    ensures { (cs : List Float) → viewed result ≡ play tallied (oracle cs) (arrived s s.flag p) progress }
 {
     let apart = opposite(s.a, p, progress);
     if apart.decision {
-        step_to(s, flag, s.a, p, apart.progress)
+        step_to(s, s.a, p, apart.progress)
     } else {
-        step_to(s, flag, p, s.b, apart.progress)
+        step_to(s, p, s.b, apart.progress)
     }
 }
 
 // The point x is evaluated.
 #[tactic(auto, using(searching::proofs::StepLaws::steps), unfolding(crate::specs::Brent::landed))]
-fn landed(a: &[f64], s: Brent, flag: bool, x: f64, progress: Progress) -> Turn<Brent>
+fn landed(a: &[f64], s: Brent, x: f64, progress: Progress) -> Turn<Brent>
     requires { Room 2 progress }
-    ensures { viewed result ≡ play tallied (oracle a.now) (landed s flag x) progress }
+    ensures { viewed result ≡ play tallied (oracle a.now) (landed s s.flag x) progress }
 {
     let counted = progress.valued();
     let Some(p) = polynom::evaluate(a, x) else {
         return Turn::refused(9, counted);
     };
-    arrived(s, flag, p, counted)
+    arrived(s, p, counted)
 }
 
 // A point outside the pair becomes the nearer end.
 #[tactic(auto, using(searching::proofs::StepLaws::steps), unfolding(crate::specs::Brent::pulled_in))]
-fn pulled_in(a: &[f64], s: Brent, flag: bool, x: f64, progress: Progress) -> Turn<Brent>
+fn pulled_in(a: &[f64], s: Brent, x: f64, progress: Progress) -> Turn<Brent>
     requires { Room 2 progress }
-    ensures { viewed result ≡ play tallied (oracle a.now) (pulled_in s flag x) progress }
+    ensures { viewed result ≡ play tallied (oracle a.now) (pulled_in s s.flag x) progress }
 {
     let placed = searching::pull(s.a.x, s.b.x, x, progress);
-    landed(a, s, flag, placed.x, placed.progress)
+    landed(a, s, placed.x, placed.progress)
 }
 
-// Only the point that is used is refused or pulled; the flag is set before.
-#[tactic(auto, using(searching::proofs::StepLaws::steps), unfolding(crate::specs::Brent::step_with))]
-fn step_with(a: &[f64], s: Brent, bisecting: bool, guess: f64, progress: Progress) -> Turn<Brent>
+// Only the point that is used is refused or pulled; the flag, whether the step bisects, is set before.
+#[tactic(auto, using(searching::proofs::StepLaws::steps), unfolding(crate::specs::Brent::step_with, crate::specs::Brent::pulled_in, crate::specs::Brent::landed, crate::specs::Brent::arrived, crate::specs::Brent::next_of))]
+fn step_with(a: &[f64], s: Brent, flag: bool, guess: f64, progress: Progress) -> Turn<Brent>
     requires { Room 2 progress }
-    ensures { viewed result ≡ play tallied (oracle a.now) (step_with s bisecting guess) progress }
+    ensures { viewed result ≡ play tallied (oracle a.now) (step_with s flag guess) progress }
 {
-    let x = used_of(bisecting, s, guess);
+    let x = used_of(flag, s, guess);
     if doubles::is_finite(x) {
-        pulled_in(a, s, bisecting, x, progress)
+        pulled_in(a, Brent { flag, ..s }, x, progress)
     } else {
         Turn::refused(9, progress)
     }

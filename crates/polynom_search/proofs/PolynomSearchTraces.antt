@@ -1,5 +1,5 @@
 -- Every history of the polynomial search has its events in order, a pair for the opening and one for each step.
-use Rattle.std.specs.Prelude.{List, [], ◌∷◌, ◌≡◌, Float}
+use Rattle.std.specs.Prelude.{Some, List, [], ◌∷◌, ◌≡◌, Float}
 use Rattle.std.proofs.Math.Logic.{inl, inr}
 use Rattle.std.proofs.Math.Path.{refl}
 use Rattle.std.specs.Float.Ieee.{lt}
@@ -7,7 +7,6 @@ use Rattle.doubles.specs.Doubles.{absolute, pulled}
 use Rattle.numerical.specs.Middle.{middle_of}
 use Rattle.numerical.specs.declared.Interval.{Interval}
 use Rattle.numerical.specs.declared.Sample.{Sample}
-use Rattle.std.specs.Prelude.{Some}
 use Rattle.polynom.specs.declared.ValueAndDerivative.{ValueAndDerivative}
 use Rattle.simple_convergency.specs.Stop.{turns_of}
 use Rattle.simple_convergency.specs.declared.StopRule.{StopRule}

@@ -14,7 +14,7 @@ use Rattle.simple_convergency.specs.declared.StopRule.{StopRule}
 use Rattle.doubles.specs.Doubles.{nought, absolute, same_sign}
 use Rattle.numerical.specs.Middle.{middle_of}
 use Rattle.polynom.specs.declared.ValueAndDerivative.{ValueAndDerivative}
-use Rattle.searching.specs.Programs.{rising, found, converged, ruled, Prog, log, Turned, ended, next, test, stops, answers, by_value, value_at, both_at, offered, pulled_into, product_departs, bracketed, narrows_to, searches, answer_of}
+use Rattle.searching.specs.Programs.{rising, found, converged, ruled, Prog, log, Turned, test, stops, answers, by_value, value_at, both_at, offered, pulled_into, product_departs, bracketed, narrows_to, searches, answer_of}
 use Rattle.searching.specs.Rules.{placed_in}
 use Rattle.searching.specs.declared.Placed.{Placed}
 

@@ -1,11 +1,10 @@
 -- What each event of a polynomial search's history is, given those before it, and what an answer by width gives. Definitions only.
-use Rattle.std.specs.Prelude.{true, false, cond, List, [], ◌∷◌, ◌⊎◌, ◌≡◌, Float}
+use Rattle.std.specs.Prelude.{true, false, cond, Some, List, [], ◌∷◌, ◌⊎◌, ◌≡◌, Float}
 use Rattle.std.specs.Float.Ieee.{lt}
 use Rattle.doubles.specs.Doubles.{absolute, pulled}
 use Rattle.numerical.specs.Middle.{middle_of}
 use Rattle.numerical.specs.declared.Interval.{Interval}
 use Rattle.numerical.specs.declared.Sample.{Sample}
-use Rattle.std.specs.Prelude.{Some}
 use Rattle.polynom.specs.declared.ValueAndDerivative.{ValueAndDerivative}
 use Rattle.searching.specs.Programs.{found, converged, flat, alike, tested, candidate, ruled, paired, stepped, Event, asked, asked_both, noted}
 use Rattle.searching.specs.Events.{evaluated_since, Newest, Tried, AnsweredBoth, Replaced, AfterPair, AtFirst, AtSecond, lower_of, upper_of, OfStarts, EndOf, PointsOf, PulledNow, Rules}

@@ -57,7 +57,6 @@ fn ordered(a: &[f64], begin: f64, end: f64, progress: Progress) -> Turn<Interval
 }
 
 // The starts are ordered, and both are evaluated.
-#[tactic(auto, using(searching::proofs::StepLaws::steps), unfolding(crate::specs::PolynomSearch::opening))]
 fn opening(a: &[f64], from: f64, to: f64, progress: Progress) -> Turn<Interval>
     requires { Room 2 progress }
     ensures { (stop : StopRule) → viewed result ≡ play tallied (oracle a.now) (opening stop from to) progress }
