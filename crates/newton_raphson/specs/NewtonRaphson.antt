@@ -1,22 +1,19 @@
 -- Newton's method, step by step as newton_raphson.rs has it. Definitions only.
 use Rattle.std.specs.Prelude.{ℕ, ◌-◌, max, true, false, cond, Float, List}
 use Rattle.std.specs.Float.{binary64}
-use Rattle.std.specs.Float.Ieee.{add, sub, div}
+use Rattle.std.specs.Float.Ieee.{add}
 use Rattle.numerical.specs.declared.Answer.{Answer}
 use Rattle.numerical.specs.declared.Answer.TheVariants.{ByWidth}
 use Rattle.numerical.specs.declared.Outcome.{Outcome}
 use Rattle.simple_convergency.specs.declared.StopRule.{StopRule}
 use Rattle.simple_convergency.specs.Stop.{flat_at}
 use Rattle.polynom.specs.Polynom.{one}
+use Rattle.polynom.specs.Polynom.{newton_point}
 use Rattle.polynom.specs.declared.ValueAndDerivative.{ValueAndDerivative}
 use Rattle.searching.specs.Programs.{found, converged, flat, Prog, Turned, ended, next, test, stops, answers, refuses, by_value, both_at, offered, steps_to, searches, answer_of}
 use Rattle.newton_raphson.specs.declared.Spot.{Spot}
 
 -- ---- a step
-
--- x - f / d
-unfoldable pub newton_point : ValueAndDerivative → Float
-newton_point v = sub binary64 v.value.x (div binary64 v.value.y v.derivative)
 
 -- "converged (x, x1) gives x1 by width with that pair"
 unfoldable pub landed : StopRule → Float → Float → Prog (Turned Spot)

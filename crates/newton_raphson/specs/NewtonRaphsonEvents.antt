@@ -6,7 +6,7 @@ use Rattle.polynom.specs.Polynom.{one}
 use Rattle.polynom.specs.declared.ValueAndDerivative.{ValueAndDerivative}
 use Rattle.searching.specs.Programs.{found, converged, flat, alike, tested, candidate, ruled, paired, stepped, Event, asked, asked_both, noted}
 use Rattle.searching.specs.Events.{candidates_in, Candidate, Untried, SampledBoth, AnsweredBoth, AtFirst}
-use Rattle.newton_raphson.specs.NewtonRaphson.{newton_point}
+use Rattle.polynom.specs.Polynom.{newton_point}
 
 -- evaluated, with its derivative, are the start and then each candidate, once, in the pass after its step, which is the Newton point or, before any other candidate, the nudged start; every test is of what was just evaluated
 abbrev pub Follows : Float → Event → List Event → Type 0

@@ -7,7 +7,7 @@ ghost use Rattle.numerical.specs.Tallies.{Room};
 ghost use Rattle.simple_convergency.specs.Stop.{greatest_limit};
 ghost use Rattle.searching.specs.Programs.{oracle, play, tallied};
 ghost use Rattle.searching.specs.Turns.{seen, viewed};
-ghost use Rattle.newton_raphson.specs.NewtonRaphson.{newton_point, landed, onward, later_at, turn_from, nudge, first_at, opening, turns_left, newton_raphson};
+ghost use Rattle.newton_raphson.specs.NewtonRaphson.{landed, onward, later_at, turn_from, nudge, first_at, opening, turns_left, newton_raphson};
 
 use numerical::{Answer, Outcome, Progress};
 use polynom::ValueAndDerivative;
@@ -23,14 +23,6 @@ pub struct Spot {
 }
 
 // ---- a step
-
-// Where the tangent crosses zero.
-#[tactic(auto, unfolding(crate::specs::NewtonRaphson::newton_point))]
-fn newton_point(v: ValueAndDerivative) -> f64
-    ensures { result ≡ newton_point v }
-{
-    v.value.x - v.value.y / v.derivative
-}
 
 // The next point is close to this one, or the search goes on there.
 #[tactic(auto, using(searching::proofs::StepLaws::steps), unfolding(crate::specs::NewtonRaphson::landed))]
@@ -63,7 +55,7 @@ fn onward(stop: StopRule, v: ValueAndDerivative, progress: Progress) -> Turn<Spo
     requires { Room 1 progress }
     ensures { (cs : List Float) → viewed result ≡ play tallied (oracle cs) (onward stop v) progress }
 {
-    let x1 = newton_point(v);
+    let x1 = v.newton_point();
     if doubles::is_finite(x1) {
         landed(stop, v.value.x, x1, progress)
     } else {

@@ -30,7 +30,8 @@ use Rattle.searching.specs.Brackets.{pairs_in, points_of, Backed, Fit, AtStarts,
 use Rattle.searching.proofs.BracketLaws.{double_finite, answered_fit, ends_fit, refused_late, unpaired_none, unpaired_value, bracketed_ends, bracket_backed, bracket_in, bracket_narrows, bracket_on, bracket_pulled, bracket_going, bracket_next, bracket_found, bracket_value, bracket_no_candidate, bracket_limit}
 use Rattle.searching.specs.Keeps.{Ends, After}
 use Rattle.searching.proofs.Keeps.{ends_done, ends_log, ends_test, ends_stops, ends_both, ends_offered, ends_pulled, ends_narrows, ends_searches}
-use Rattle.polynom_search.specs.PolynomSearch.{second_at, first_at, ordered, opening, pair_of, replaced_of, chosen, closer, newton_point, in_pair, usable, at_middle, step_at, width_at, pulled_in, at_middle_of, turn_from, polynom_program}
+use Rattle.polynom.specs.Polynom.{newton_point}
+use Rattle.polynom_search.specs.PolynomSearch.{second_at, first_at, ordered, opening, pair_of, replaced_of, chosen, closer, in_pair, usable, at_middle, step_at, width_at, pulled_in, at_middle_of, turn_from, polynom_program}
 
 -- ---- points and pairs
 

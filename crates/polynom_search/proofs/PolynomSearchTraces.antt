@@ -16,7 +16,8 @@ use Rattle.searching.specs.Events.{evaluations_in, candidates_in, evaluated_sinc
 use Rattle.searching.proofs.EventLaws.{opening_none, opening_value, tracing_newest, tracing_value, tracing_both, tracing_stops, tracing_candidate, tracing_ruled, tracing_narrows, traced_end, traced_bracketed}
 use Rattle.searching.specs.Keeps.{Ends, After}
 use Rattle.searching.proofs.Keeps.{ends_done, ends_test, ends_searches}
-use Rattle.polynom_search.specs.PolynomSearch.{second_at, first_at, ordered, opening, pair_of, replaced_of, chosen, closer, newton_point, usable, at_middle, step_at, width_at, pulled_in, at_middle_of, turn_from, polynom_program}
+use Rattle.polynom.specs.Polynom.{newton_point}
+use Rattle.polynom_search.specs.PolynomSearch.{second_at, first_at, ordered, opening, pair_of, replaced_of, chosen, closer, usable, at_middle, step_at, width_at, pulled_in, at_middle_of, turn_from, polynom_program}
 use Rattle.polynom_search.specs.PolynomSearchEvents.{ChosenNow, Follows, Gives}
 use Rattle.polynom_search.proofs.PolynomSearchKeeps.{replaced_one}
 

@@ -1,7 +1,6 @@
 -- The polynomial search, step by step as find_root of polynom.rs has it. Definitions only.
 use Rattle.std.specs.Prelude.{Bool, false, cond, Option, Some, None, Float, List}
-use Rattle.std.specs.Float.{binary64}
-use Rattle.std.specs.Float.Ieee.{sub, div, lt, le, ne}
+use Rattle.std.specs.Float.Ieee.{lt, le, ne}
 use Rattle.std.specs.Float.Ieee.Scale.{finite}
 use Rattle.numerical.specs.declared.Answer.{Answer}
 use Rattle.numerical.specs.declared.Answer.TheVariants.{ByWidth}
@@ -13,6 +12,7 @@ use Rattle.simple_convergency.specs.Stop.{turns_of}
 use Rattle.simple_convergency.specs.declared.StopRule.{StopRule}
 use Rattle.doubles.specs.Doubles.{nought, absolute, same_sign}
 use Rattle.numerical.specs.Middle.{middle_of}
+use Rattle.polynom.specs.Polynom.{newton_point}
 use Rattle.polynom.specs.declared.ValueAndDerivative.{ValueAndDerivative}
 use Rattle.searching.specs.Programs.{rising, found, converged, ruled, Prog, log, Turned, test, stops, answers, by_value, value_at, both_at, offered, pulled_into, product_departs, bracketed, narrows_to, searches, answer_of}
 use Rattle.searching.specs.Rules.{placed_in}
@@ -51,9 +51,6 @@ chosen i p = log (ruled 1 (product_departs i.begin p)) (narrows_to pair_of (repl
 -- "its value is computed, and it is taken only if strictly smaller in size"
 unfoldable pub closer : Interval → Sample → Sample → Prog (Turned Interval)
 closer i middle p = test (lt (absolute p.y) (absolute middle.y)) (chosen i p) (chosen i middle)
-
-unfoldable pub newton_point : ValueAndDerivative → Float
-newton_point v = sub binary64 v.value.x (div binary64 v.value.y v.derivative)
 
 -- "A Newton point that isn't finite is simply outside"
 unfoldable pub in_pair : Interval → Float → Bool

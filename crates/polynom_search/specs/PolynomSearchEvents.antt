@@ -8,7 +8,8 @@ use Rattle.numerical.specs.declared.Sample.{Sample}
 use Rattle.polynom.specs.declared.ValueAndDerivative.{ValueAndDerivative}
 use Rattle.searching.specs.Programs.{found, converged, flat, alike, tested, candidate, ruled, paired, stepped, Event, asked, asked_both, noted}
 use Rattle.searching.specs.Events.{evaluated_since, Newest, Tried, AnsweredBoth, Replaced, AfterPair, AtFirst, AtSecond, lower_of, upper_of, OfStarts, EndOf, PointsOf, PulledNow, Rules}
-use Rattle.polynom_search.specs.PolynomSearch.{newton_point, usable}
+use Rattle.polynom.specs.Polynom.{newton_point}
+use Rattle.polynom_search.specs.PolynomSearch.{usable}
 
 -- the Newton point from the value and derivative just worked out, where the derivative is nonzero and it lies in the newest pair
 abbrev pub NewtonNow : Float → List Event → Type 0

@@ -8,7 +8,7 @@ ghost use Rattle.simple_convergency.specs.Stop.{greatest_limit};
 ghost use Rattle.simple_convergency.specs.declared.StopRule.{StopRule};
 ghost use Rattle.searching.specs.Programs.{oracle, play, tallied};
 ghost use Rattle.searching.specs.Turns.{viewed};
-ghost use Rattle.polynom_search.specs.PolynomSearch.{second_at, first_at, ordered, opening, chosen, closer, newton_point, in_pair, at_middle, step_at, width_at, middle_in, at_middle_of, turn_from, polynom_search};
+ghost use Rattle.polynom_search.specs.PolynomSearch.{second_at, first_at, ordered, opening, chosen, closer, in_pair, at_middle, step_at, width_at, middle_in, at_middle_of, turn_from, polynom_search};
 
 use numerical::{Answer, Interval, Outcome, Progress, Sample};
 use polynom::ValueAndDerivative;
@@ -94,14 +94,6 @@ fn closer(i: Interval, middle: Sample, p: Sample, progress: Progress) -> Turn<In
     }
 }
 
-// Where the tangent at the sample crosses zero.
-#[tactic(auto, unfolding(crate::specs::PolynomSearch::newton_point))]
-fn newton_point(v: ValueAndDerivative) -> f64
-    ensures { result ≡ newton_point v }
-{
-    v.value.x - v.value.y / v.derivative
-}
-
 // A point that is not finite is simply outside.
 #[tactic(auto, unfolding(crate::specs::PolynomSearch::in_pair))]
 fn in_pair(i: Interval, x: f64) -> bool
@@ -116,7 +108,7 @@ fn at_middle(a: &[f64], i: Interval, v: ValueAndDerivative, progress: Progress) 
     requires { Room 2 progress }
     ensures { viewed result ≡ play tallied (oracle a.now) (at_middle i v) progress }
 {
-    let x = newton_point(v);
+    let x = v.newton_point();
     if v.derivative != 0.0 && in_pair(i, x) {
         let counted = progress.valued();
         let Some(p) = polynom::evaluate(a, x) else {
