@@ -1,7 +1,6 @@
 -- Records as C writes and reads them: a call and its answer as numbers and buffers. Definitions only.
-use Rattle.std.specs.Prelude.{ℕ, ◌-◌, cond, List, [], ◌∷◌, eqb, ltb, length, take, get_or, Float, Option, None, Some, Result, Ok, Err}
+use Rattle.std.specs.Prelude.{ℕ, ◌-◌, cond, List, [], ◌∷◌, eqb, ltb, length, take, get_or, Float, Option, None, Some, Result, Ok, Err, ◌++◌}
 use Rattle.std.specs.Float.{nan}
-use Rattle.doubles.specs.Doubles.{nought}
 use Rattle.numerical.specs.Answers.{kind_of, numbers_of, counts_of}
 use Rattle.numerical.specs.Answers as numerical
 use Rattle.numerical.specs.declared.Answer.{Answer}
@@ -9,9 +8,9 @@ use Rattle.numerical.specs.declared.Answer.TheVariants.{ByValue, ByWidth, Refuse
 use Rattle.numerical.specs.declared.Outcome.{Outcome}
 use Rattle.simple_convergency.specs.Stop.{most_coefficients, tolerances_of}
 use Rattle.simple_convergency.specs.declared.Tolerances.{Tolerances}
+use Rattle.roots.specs.Calls.{two_starts}
 use Rattle.roots.specs.Methods.{method_number}
 use Rattle.roots.specs.declared.Method.{Method}
-use Rattle.roots.specs.declared.Method.TheVariants.{Brent, RegulaFalsi, Secant, NewtonRaphson, Polynom}
 use Rattle.records.specs.Records.{between, blank, padded, progress_of, refusal_number, written_to, left_by, reading_of}
 use Rattle.records.specs.declared.Record.{Record}
 use Rattle.records.specs.declared.Reading.{Reading}
@@ -75,11 +74,7 @@ module _ (recordKind : ℕ) (a : List Float) (method : ℕ) (first second value 
 
 -- the starts, the second of them +0.0 where the method has one, the value tolerance and the point tolerance
 abbrev pub points_of : Method → Tolerances → List Float
-points_of (Brent from to) t = from ∷ to ∷ t.value ∷ t.point ∷ []
-points_of (RegulaFalsi from to) t = from ∷ to ∷ t.value ∷ t.point ∷ []
-points_of (Secant first second) t = first ∷ second ∷ t.value ∷ t.point ∷ []
-points_of (NewtonRaphson start) t = start ∷ nought ∷ t.value ∷ t.point ∷ []
-points_of (Polynom from to) t = from ∷ to ∷ t.value ∷ t.point ∷ []
+points_of method tolerances = two_starts method ++ (tolerances.value ∷ tolerances.point ∷ [])
 
 -- length, method, count, limit, the answer's kind, the record's kind; all zero beside a refusal
 abbrev pub words_of : Result Reading Refusal → List ℕ

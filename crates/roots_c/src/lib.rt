@@ -197,14 +197,8 @@ pub fn roots_record_write(
 fn points_of(method: Method, tolerances: Tolerances) -> [f64; 4]
     ensures { result ≡ points_of method tolerances }
 {
-    let Tolerances { value, point } = tolerances;
-    match method {
-        Method::Brent { from, to } => [from, to, value, point],
-        Method::RegulaFalsi { from, to } => [from, to, value, point],
-        Method::Secant { first, second } => [first, second, value, point],
-        Method::NewtonRaphson { start } => [start, 0.0, value, point],
-        Method::Polynom { from, to } => [from, to, value, point],
-    }
+    let [first, second] = method.starts();
+    [first, second, tolerances.value, tolerances.point]
 }
 
 // The length, the method, the count, the limit, the answer's kind and the record's.
