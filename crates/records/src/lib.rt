@@ -99,7 +99,6 @@ fn is_kind(n: u64) -> bool
 }
 
 // The bits of a double that is finite.
-#[tactic(auto, unfolding(crate::specs::Records::is_double))]
 fn is_double(n: u64) -> bool
     ensures { result ≡ is_double n }
 {
