@@ -1,5 +1,5 @@
 -- The parts of a record put one after the other, and a record written or refused.
-use Rattle.std.specs.Prelude.{ℕ, ◌+◌, ◌-◌, ◌≤◌, ◌<◌, Bool, true, ◌⊎◌, eqb, ltb, min, Result, Ok, Err, length, take, drop, get_or, Float}
+use Rattle.std.specs.Prelude.{ℕ, ◌+◌, ◌*◌, ◌-◌, ◌≤◌, ◌<◌, Bool, true, ◌⊎◌, eqb, ltb, min, Result, Ok, Err, length, take, drop, get_or, Float}
 use Rattle.std.proofs.Common.{add-one, arith, true≢false, inl, inr, sym, ◌∙◌, length-append, take_all}
 use Rattle.std.proofs.Math.Bool.{false}
 use mathlib.Core.List.{List, [], ◌∷◌, ◌++◌, append_assoc}
@@ -28,7 +28,6 @@ use Rattle.records.specs.declared.Record.{Record}
 use Rattle.records.specs.declared.Reading.{Reading}
 use Rattle.records.specs.declared.Refusal.{Refusal}
 use Rattle.records.specs.declared.Refusal.TheVariants.{NoRoom, NoRecord}
-use Rattle.records.specs.WriteLaws.{PuttingDoubles}
 
 -- ---- doubles
 
@@ -37,20 +36,20 @@ unfolding bits_of
 bits_append [] b = refl
 bits_append (x ∷ a) b = ap (λ (l : List ℕ). to_bits binary64 x ∷ l) (bits_append a b)
 
-pub doubles_start : (d : Draft) (a : List Float) → d.length ≤ length d.bytes → PuttingDoubles d a d 0
+pub doubles_start : (d : Draft) (a : List Float) → d.length ≤ length d.bytes → Puts (10 * 0) (bits_of (take 0 a)) d d
 unfolding bits_of
-doubles_start d a h = record { near = omega arith; is = row_nothing d.bytes d.length h }
+doubles_start d a h = record { put = row_nothing d.bytes d.length h; near = omega arith }
 
-module _ {before now : Draft} {a : List Float} {i : ℕ} (g : PuttingDoubles before a now i) where
-  pub doubles_on : {n : ℕ} {after : Draft} → i < length a → n ≡ to_bits binary64 (get_or a i nan) → Puts (n ∷ []) now after → after.length ≤ now.length + 10 → PuttingDoubles before a after (i + 1)
+module _ (a : List Float) (i : ℕ) {before now : Draft} (g : Puts (10 * i) (bits_of (take i a)) before now) where
+  pub doubles_on : {n : ℕ} {after : Draft} → i < length a → n ≡ to_bits binary64 (get_or a i nan) → Puts 10 (n ∷ []) now after → Puts (10 * (i + 1)) (bits_of (take (i + 1) a)) before after
   unfolding bits_of
-  doubles_on {n} {after} h e x s = record { near = let z = g.near in omega arith; is = rw bits (row_both g.is x) }
+  doubles_on {n} {after} h e x = record { put = rw bits (row_both g.put x.put); near = let y = g.near in let z = x.near in omega arith }
     where
       bits : bits_of (take (i + 1) a) ≡ bits_of (take i a) ++ (n ∷ [])
       bits = rw (add-one i, take-suc a i nan h, bits_append, e)
 
-  pub doubles_done : length a ≤ i → Puts (bits_of a) before now
-  doubles_done h = rw (take_all i a h) at g.is
+  pub doubles_done : length a ≤ i → i ≤ length a → Puts (10 * length a) (bits_of a) before now
+  doubles_done h l = record { put = rw (take_all i a h) at g.put; near = let y = g.near in omega arith }
 
 -- where there are more than 16, the first 16 are all
 pub all_put : (b : List ℕ) (at : ℕ) (a : List Float) (k j : ℕ) {now : List ℕ} {r : ℕ} → length a ≡ 16 → j ≡ min k 16 → PutRow b at (bits_of (take j a)) now r → PutRow b at (bits_of (take k a)) now r
@@ -118,9 +117,10 @@ module _ (a : List ℕ) (at : ℕ) {b : List ℕ} {p : ℕ} where
       progress_put g f x y z w = rw f at (row_both x (row_both y (row_both z w)))
 
 pub record_drawn :
-    (k : Record) {empty called answered drawn : Draft} → empty.length ≡ 0 → Puts (call_row k) empty called → Puts (answer_row k.outcome.answer) called answered → Puts (progress_row k.outcome.progress) answered drawn → Drawn (row_of k) drawn
+    (k : Record) {empty called answered drawn : Draft} → empty.length ≡ 0 → Puts 250 (call_row k) empty called → Puts 40 (answer_row k.outcome.answer) called answered →
+    Puts 40 (progress_row k.outcome.progress) answered drawn → Drawn (row_of k) drawn
 unfolding row_of
-record_drawn k {empty} e x y z = record { before = empty.bytes; is = rw e at (row_both x (row_both y z)) }
+record_drawn k {empty} e x y z = record { before = empty.bytes; is = rw e at (row_both x.put (row_both y.put z.put)) }
 
 -- ---- a record written, or refused
 

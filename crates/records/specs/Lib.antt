@@ -5,7 +5,6 @@ pub mod Drafts
 -- what proofs cite
 pub mod ReadLaws
 pub mod PartLaws
-pub mod WriteLaws
 pub mod BackLaws
 pub mod PrefixLaws
 pub mod ReadingLaws

@@ -95,11 +95,10 @@ struct Call {
 fn is_kind(n: u64) -> bool
     ensures { result ≡ is_kind n }
 {
-    n < 2 || 16 <= n && n <= 19
+    matches!(n, 0 | 1 | 16..=19)
 }
 
 // The bits of a double that is finite.
-#[tactic(auto, unfolding(crate::specs::Records::is_double))]
 fn is_double(n: u64) -> bool
     ensures { result ≡ is_double n }
 {
@@ -362,18 +361,15 @@ impl Draft {
     // All that is put goes through here.
     fn put_number(&mut self, n: u64)
         requires { self.old.length + 10 ≤ 330 }
-        ensures put_row { Puts (n ∷ []) self.old self.new }
-        ensures upper_bound { self.new.length ≤ self.old.length + 10 }
+        ensures { Puts 10 (n ∷ []) self.old self.new }
     {
-        let end = rows::put(n, &mut self.bytes, self.length);
-        self.length = end;
+        self.length = rows::put(n, &mut self.bytes, self.length);
     }
 
     // Doubles, finite or not.
     fn put_doubles(&mut self, a: &[f64])
         requires { self.old.length + 10 * length a.now ≤ 330 }
-        ensures put_row { Puts (bits_of a.now) self.old self.new }
-        ensures upper_bound { self.new.length ≤ self.old.length + 10 * length a.now }
+        ensures { Puts (10 * length a.now) (bits_of a.now) self.old self.new }
     {
         for x in a {
             self.put_number(doubles::pattern(*x));
@@ -383,8 +379,7 @@ impl Draft {
     // The starts of a method: Newton has one.
     fn put_starts(&mut self, method: Method)
         requires { self.old.length + 20 ≤ 330 }
-        ensures put_row { Puts (bits_of (starts_of method)) self.old self.new }
-        ensures upper_bound { self.new.length ≤ self.old.length + 20 }
+        ensures { Puts 20 (bits_of (starts_of method)) self.old self.new }
     {
         match method {
             Method::Brent { from, to }
@@ -398,17 +393,15 @@ impl Draft {
     // Where the count is above 16 there are 16, and the reader refuses the count.
     fn put_coefficients(&mut self, a: [f64; 16], count: usize)
         requires { self.old.length + 160 ≤ 330 }
-        ensures put_row { Puts (bits_of (take count a)) self.old self.new }
-        ensures upper_bound { self.new.length ≤ self.old.length + 160 }
+        ensures { Puts 160 (bits_of (take count a)) self.old self.new }
     {
-        self.put_doubles(&a[..count.min(16)]);
+        self.put_doubles(&a[..count.min(StopRule::MOST_COEFFICIENTS)]);
     }
 
     // The kind, and the method's number. Kind 1 begins with the method, another with 0 and the kind.
     fn put_head(&mut self, kind: u64, method: Method)
         requires { self.old.length + 30 ≤ 330 }
-        ensures put_row { Puts (head_row kind ++ (method_number method ∷ [])) self.old self.new }
-        ensures upper_bound { self.new.length ≤ self.old.length + 30 }
+        ensures { Puts 30 (head_row kind ++ (method_number method ∷ [])) self.old self.new }
     {
         let number = u64::from(method.number());
         if kind == 1 {
@@ -422,8 +415,7 @@ impl Draft {
     // Kind 1 has one tolerance; another has that of values and then that of points.
     fn put_tolerances(&mut self, kind: u64, tolerances: Tolerances)
         requires { self.old.length + 20 ≤ 330 }
-        ensures put_row { Puts (tolerances_row kind tolerances) self.old self.new }
-        ensures upper_bound { self.new.length ≤ self.old.length + 20 }
+        ensures { Puts 20 (tolerances_row kind tolerances) self.old self.new }
     {
         if kind == 1 {
             return self.put_doubles(&[tolerances.value]);
@@ -434,8 +426,7 @@ impl Draft {
     // The starts, the tolerances and the limit.
     fn put_rule(&mut self, content: &Record)
         requires { self.old.length + 50 ≤ 330 }
-        ensures put_row { Puts (rule_row content.now.kind content.now.method content.now.tolerances content.now.limit) self.old self.new }
-        ensures upper_bound { self.new.length ≤ self.old.length + 50 }
+        ensures { Puts 50 (rule_row content.now.kind content.now.method content.now.tolerances content.now.limit) self.old self.new }
     {
         self.put_starts(content.method);
         self.put_tolerances(content.kind, content.tolerances);
@@ -445,8 +436,7 @@ impl Draft {
     // The head, the coefficients with their count, and the rest of the call.
     fn put_call(&mut self, content: &Record)
         requires { self.old.length + 250 ≤ 330 }
-        ensures put_row { Puts (call_row content.now) self.old self.new }
-        ensures upper_bound { self.new.length ≤ self.old.length + 250 }
+        ensures { Puts 250 (call_row content.now) self.old self.new }
     {
         self.put_head(content.kind, content.method);
         self.put_number(content.count as u64);
@@ -457,8 +447,7 @@ impl Draft {
     // The kind of an answer and its numbers.
     fn put_answer(&mut self, answer: Answer)
         requires { self.old.length + 40 ≤ 330 }
-        ensures put_row { Puts (answer_row answer) self.old self.new }
-        ensures upper_bound { self.new.length ≤ self.old.length + 40 }
+        ensures { Puts 40 (answer_row answer) self.old self.new }
     {
         let kind = answer.kind();
         self.put_number(kind);
@@ -469,8 +458,7 @@ impl Draft {
     // The tallies and the mark.
     fn put_progress(&mut self, progress: Progress)
         requires { self.old.length + 40 ≤ 330 }
-        ensures put_row { Puts (progress_row progress) self.old self.new }
-        ensures upper_bound { self.new.length ≤ self.old.length + 40 }
+        ensures { Puts 40 (progress_row progress) self.old self.new }
     {
         let tally = progress.tally;
         self.put_number(tally.steps.0);

@@ -1,4 +1,4 @@
-use Rattle.std.proofs.Common.{rules}
+use Rattle.std.proofs.Common.{rules, arith}
 use Rattle.rows.proofs.TakeLaws.{take_nothing, take_small, take_starts, take_ends, take_needless, take_last, take_on, times_fits, sum_fits, times_fits_on, sum_fits_on, weight_fits, take_by_tenth}
 use Rattle.rows.proofs.take.Goals as goal
 
@@ -24,7 +24,8 @@ pub overflow_add-result-then-b-lt128 : goal.overflow_add-result-then-b-lt128
 overflow_add-result-then-b-lt128 c = search (sum_fits, rules)
 
 pub returns-then-b-lt128 : goal.returns-then-b-lt128
-returns-then-b-lt128 c = search (take_last, rules)
+returns-then-b-lt128 c =
+    take_last _ _ _ _ _ c.loop-p.invariant c.loop-p-test.true c.in_ok-get-2.ensures.lookup.0 (search rules) (λ z. omega arith) c.if-b-lt128.true
 
 pub overflow_mul-v : goal.overflow_mul-v
 overflow_mul-v c = search (times_fits_on, rules)

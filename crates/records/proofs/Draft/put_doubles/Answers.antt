@@ -8,5 +8,5 @@ loop-x-init c = search (doubles_start, rules)
 pub loop-x-preserved : goal.loop-x-preserved
 loop-x-preserved c = search (doubles_on, rules)
 
-pub returns-clause-put_row : goal.returns-clause-put_row
-returns-clause-put_row c = search doubles_done
+pub returns : goal.returns
+returns c = search (doubles_done, rules)

@@ -3,4 +3,4 @@ use borrow.Author.Rules.{rules}
 use Rattle.records.proofs.Draft.put_number.Goals as goal
 
 pub returns : goal.returns
-returns c = record { put_row = search (row_one, rules); upper_bound = search number_near }
+returns c = record { put = search (row_one, rules); near = search number_near }

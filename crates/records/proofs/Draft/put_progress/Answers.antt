@@ -2,5 +2,5 @@ use Rattle.records.proofs.WriteLaws.{progress_put}
 use borrow.Author.Rules.{rules}
 use Rattle.records.proofs.Draft.put_progress.Goals as goal
 
-pub returns-clause-put_row : goal.returns-clause-put_row
-returns-clause-put_row c = search (progress_put, rules)
+pub returns : goal.returns
+returns c = record { put = search (progress_put, rules); near = search rules }
