@@ -87,8 +87,11 @@ pub fn value(a: &[f64], x: f64) -> f64
 {
     let first = begun(a, x);
     let mut sum = first.sum;
-    for pair in (0..first.left / 2).rev() {
-        sum = two_more(a, x, 2 * pair, sum);
+    let mut left = first.left;
+    // An index by hand: with `for pair in (0..left / 2).rev()` the compiler loads an address back from the stack in each turn.
+    while left > 1 {
+        left -= 2;
+        sum = two_more(a, x, left, sum);
     }
     sum.result + sum.xn
 }

@@ -1,23 +1,25 @@
--- `polynom::value` meets its contract. The loop's invariant: the coefficients behind the pairs that are left are summed. Assumes nothing.
-use Rattle.std.proofs.Common.{arith, ◌+◌, ◌-◌, ◌*◌, ◌/◌}
+-- `polynom::value` meets its contract. The loop's invariant: the coefficients from `left` on are summed, and an even number is left. Assumes nothing.
+use borrow.Author.Rules.{rules}
+use native.Mathlib.Omega.{arith}
+use Prim.Native.Nat.{◌+◌, ◌-◌}
 use Rattle.polynom.specs.Polynom.{value}
 use Rattle.polynom.proofs.TermLaws.{sums_at}
 use Rattle.polynom.proofs.value.Goals as goal
 
-pub loop-pair-init : goal.loop-pair-init
-loop-pair-init c =
-    let first = c.begun-first in
-    sums_at _ _ first.result.left (2 * (first.result.left / 2)) (omega (arith, first.ensures.1)) first.ensures.2
+pub overflow_sub-left : goal.overflow_sub-left
+overflow_sub-left c = omega (arith, c.loop-left.invariant.1)
 
 pub two_more-sum-requires : goal.two_more-sum-requires
 two_more-sum-requires c =
-    let l = c.loop-pair in
-    let h = c.begun-first.ensures.0 in
-    (omega arith, sums_at _ _ (2 * l.pair) (2 + 2 * (l.pair - 1)) (omega arith) l.invariant)
+    let l = c.loop-left in
+    (omega (arith, l.invariant.1), sums_at _ _ l.left (2 + (l.left - 2)) (omega (arith, l.invariant.1)) l.invariant.2)
 
-pub loop-pair-preserved : goal.loop-pair-preserved
-loop-pair-preserved c = c.two_more-sum.ensures
+pub loop-left-smaller : goal.loop-left-smaller
+loop-left-smaller c = omega arith
+
+pub loop-left-preserved : goal.loop-left-preserved
+loop-left-preserved c = (omega arith, omega (arith, c.loop-left.invariant.1), search rules)
 
 pub returns : goal.returns
 unfolding value
-returns c = let l = c.loop-pair in rw (sums_at _ _ (2 * l.pair) 0 (omega arith) l.invariant)
+returns c = let l = c.loop-left in rw (sums_at _ _ l.left 0 (omega (arith, l.invariant.1)) l.invariant.2)

@@ -1,6 +1,8 @@
-use Rattle.std.proofs.Common.{◌≡◌, ◌*◌, drop}
-use Rattle.polynom.specs.Polynom.{sums}
+use Rattle.polynom.specs.Terms.{Passed}
 use Rattle.polynom.proofs.value.Given as goal
 
-abbrev pub invariant-loop-pair : goal.invariant-loop-pair
-invariant-loop-pair l = sums (drop (2 * l.pair) l.a) l.x ≡ l.sum
+abbrev pub invariant-loop-left : goal.invariant-loop-left
+invariant-loop-left l = Passed l.a l.x (record { sum = l.sum; left = l.left })
+
+abbrev pub decreases-loop-left : goal.decreases-loop-left
+decreases-loop-left l = l.left
