@@ -357,7 +357,7 @@ struct Draft {
 }
 
 impl Draft {
-    // All that is put goes through here.
+    // `rows::put` as what each part calls: here alone bytes become a row and its room.
     fn put_number(&mut self, n: u64)
         requires { self.old.length + 10 ≤ 330 }
         ensures { Puts 10 (n ∷ []) self.old self.new }
