@@ -1,11 +1,10 @@
 -- The parts of a record, read one after the other.
-use Rattle.std.specs.Prelude.{ℕ, ◌-◌, ◌≤◌, Bool, eqb, length, take, drop, get_or, Option, Some, None, Ok, Float}
+use Rattle.std.specs.Prelude.{Err, ℕ, ◌-◌, ◌≤◌, Bool, eqb, length, take, drop, get_or, Ok, Float}
 use native.Mathlib.Omega.{arith}
 use Rattle.std.proofs.Math.Bool.{true, false, cond}
 use mathlib.Core.List.{List, [], ◌∷◌, ◌++◌}
 use Rattle.std.proofs.Math.Path.{◌≡◌, refl, ap}
 use Rattle.std.proofs.Common.{sym, ◌∙◌, subst, length-drop, length-take-le}
-use Rattle.std.specs.Option.{ok_or}
 use Rattle.std.specs.Float.{nan}
 use borrow.Author.Tests.{eq-eqb, ne_eqb, eqb-true}
 use Rattle.numerical.specs.declared.Answer.{Answer}
@@ -19,7 +18,7 @@ use Rattle.rows.specs.Groups.{none, number_of, TookOne}
 use Rattle.rows.specs.Layouts.{Layout, end, number, read, TookNumber, NoNumber, Goes, Fails}
 use Rattle.rows.proofs.LayoutLaws.{goes_on, goes_wrong}
 use Rattle.records.specs.Records.{between, is_tolerance, is_kind, is_tally, numbers_for, answer_of, started_at, noughts, padded, progress_of, doubles, behind_zero, headed, tolerances_for, record_layout, reading_of}
-use Rattle.records.specs.Parts.{double_part, head_part, rule_layout, rule_part, call_layout, call_part, answer_layout, progress_layout, HeldPart, NoPart, TookRecord}
+use Rattle.records.specs.Parts.{double_part, head_part, rule_layout, rule_part, call_layout, call_part, answer_layout, progress_layout, HeldPart, NoPart}
 use Rattle.records.proofs.ReadLaws.{number_held, number_missed, tally_held, tally_missed}
 use Rattle.records.specs.declared.Record.{Record}
 use Rattle.records.specs.declared.Reading.{Reading}
@@ -341,7 +340,10 @@ module _ (s : List ℕ) where
 
 -- ---- what reading tells
 
-pub told_by : (s : List ℕ) (r : Option Reading) → TookRecord s r → ok_or r NoRecord ≡ reading_of s
+pub no_reading : (s : List ℕ) → Fails record_layout s 0 → Err NoRecord ≡ reading_of s
+unfolding reading_of
+no_reading s x = rw x.is
+
+pub reading_is : (s : List ℕ) (r : Reading) → Goes record_layout s 0 (end r.content) r.length → Ok r ≡ reading_of s
 unfolding reading_of read
-told_by s None x = rw x.is
-told_by s (Some r) x = rw x.is (ap (λ (n : ℕ). Ok (record { length = n; content = r.content })) (let h = x.within in let j = length-drop r.length s in omega arith))
+reading_is s r x = rw x.is (ap (λ (n : ℕ). Ok (record { length = n; content = r.content })) (let h = x.within in let j = length-drop r.length s in omega arith))

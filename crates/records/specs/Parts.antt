@@ -8,11 +8,10 @@ use Rattle.simple_convergency.specs.Stop.{greatest_limit, most_coefficients}
 use Rattle.simple_convergency.specs.declared.Tolerances.{Tolerances}
 use Rattle.roots.specs.Methods.{start_count}
 use Rattle.roots.specs.declared.Method.{Method}
-use Rattle.rows.specs.Layouts.{Layout, end, number, Read, held, wrong, read, TookNumber, NoNumber, Goes, Fails}
+use Rattle.rows.specs.Layouts.{Layout, number, Read, held, wrong, read, TookNumber, NoNumber, Goes, Fails}
 use Rattle.rows.specs.declared.Taken.{Taken}
 use Rattle.records.specs.Records.{between, is_kind, is_tally, numbers_for, answer_of, started_at, padded, progress_of, doubles, headed, tolerances_for, record_layout}
 use Rattle.records.specs.declared.Record.{Record}
-use Rattle.records.specs.declared.Reading.{Reading}
 use Rattle.records.specs.declared.Head.{Head}
 use Rattle.records.specs.declared.Rule.{Rule}
 use Rattle.records.specs.declared.Call.{Call}
@@ -76,11 +75,6 @@ TookPart part s at None = NoPart part s at
 abbrev pub Filled : ℕ → List ℕ → ℕ → List Float → Option ℕ → Type 0
 Filled k s at a (Some p) = HeldPart (doubles k) s at a p
 Filled k s at a None = NoPart (doubles k) s at
-
--- a whole record
-abbrev pub TookRecord : List ℕ → Option Reading → Type 0
-TookRecord s (Some reading) = Goes record_layout s 0 (end reading.content) reading.length
-TookRecord s None = Fails record_layout s 0
 
 -- ---- whether bytes are one record, with nothing behind it
 

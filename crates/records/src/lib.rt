@@ -4,7 +4,7 @@
 
 ghost use Rattle.std.specs.Prelude.{ℕ, Bool, true, ◌*◌, ◌+◌, ◌≤◌, drop, length, take, [], ◌++◌, ◌∷◌, ◌≡◌};
 ghost use Rattle.records.specs.Drafts.{Puts, Drawn};
-ghost use Rattle.records.specs.Parts.{Decides, Filled, TookIf, TookPart, TookRecord, answer_layout, call_part, double_part, head_part, progress_layout, rule_part, whole_of};
+ghost use Rattle.records.specs.Parts.{Decides, Filled, TookIf, TookPart, answer_layout, call_part, double_part, head_part, progress_layout, rule_part, whole_of};
 ghost use Rattle.records.specs.Records.{answer_of, answer_row, between, bits_of, call_row, head_row, holds_both, is_double, is_kind, is_tolerance, left_by, numbers_for, progress_row, reading_of, refusal_number, row_of, rule_row, tolerances_for, tolerances_row, written_to};
 ghost use Rattle.roots.specs.Calls.{starts_of};
 ghost use Rattle.roots.specs.Methods.{method_number};
@@ -313,13 +313,19 @@ fn read_progress(s: &[u8], at: usize) -> Option<Taken<Progress>>
     })
 }
 
-// The parts, one behind the other.
-fn read_parts(s: &[u8]) -> Option<Reading>
-    ensures { TookRecord s.now result }
+// The record at the start of the bytes; what follows it is not looked at.
+pub fn read(s: &[u8]) -> Result<Reading, Refusal>
+    ensures { result ≡ reading_of s.now }
 {
-    let call = read_call(s)?;
-    let answer = read_answer(s, call.next)?;
-    let progress = read_progress(s, answer.next)?;
+    let Some(call) = read_call(s) else {
+        return Err(Refusal::NoRecord);
+    };
+    let Some(answer) = read_answer(s, call.next) else {
+        return Err(Refusal::NoRecord);
+    };
+    let Some(progress) = read_progress(s, answer.next) else {
+        return Err(Refusal::NoRecord);
+    };
     let rule = call.value.rule;
     let coefficients = call.value.coefficients;
     let content = Record {
@@ -334,17 +340,10 @@ fn read_parts(s: &[u8]) -> Option<Reading>
             progress: progress.value,
         },
     };
-    Some(Reading {
+    Ok(Reading {
         length: progress.next,
         content,
     })
-}
-
-// The record at the start of the bytes; what follows it is not looked at.
-pub fn read(s: &[u8]) -> Result<Reading, Refusal>
-    ensures { result ≡ reading_of s.now }
-{
-    read_parts(s).ok_or(Refusal::NoRecord)
 }
 
 // ---- writing: each part is put behind the one before
@@ -358,7 +357,7 @@ struct Draft {
 }
 
 impl Draft {
-    // All that is put goes through here.
+    // `rows::put` as what each part calls: here alone bytes become a row and its room.
     fn put_number(&mut self, n: u64)
         requires { self.old.length + 10 ≤ 330 }
         ensures { Puts 10 (n ∷ []) self.old self.new }

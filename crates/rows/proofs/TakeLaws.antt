@@ -93,8 +93,8 @@ module _ (s : List ℕ) (at v w p : ℕ) (g : Taking s at v w p) where
     pub take_last : (b ≡ 0 → ⊥) → b < 128 → Took s at (taken (v + w * b) (p + 1))
     take_last z u = record { within = let i = within in omega arith; is = here ∙ ap (above v w) (number_last left b (drop (p + 1) s) u) ∙ rw (ne_eqb b 0 z) }
 
-    pub take_on : 128 ≤ b → b < 256 → Taking s at (v + w * (b - 128)) (w * 128) (p + 1)
-    take_on m u =
+    next : 128 ≤ b → b < 256 → Taking s at (v + w * (b - 128)) (w * 128) (p + 1)
+    next m u =
         let k = mul-le-mul_left {m = b - 128} {n = 127} w (omega arith) in
         let d = g.low in
         record {
@@ -107,6 +107,9 @@ module _ (s : List ℕ) (at v w p : ℕ) (g : Taking s at v w p) where
       where
         one_more : p + 1 - at ≡ suc (p - at)
         one_more = let i = g.some in omega arith
+
+    pub take_on : {q : ℕ} → q ≡ p + 1 → 128 ≤ b → b < 256 → Taking s at (v + w * (b - 128)) (w * 128) q
+    take_on f m u = rw f (next m u)
 
 -- ---- room in 64 bits
 

@@ -15,7 +15,7 @@ groups n = groups_in 9 n
 
 -- ---- reading
 
--- a number and what is left behind it
+-- a number and what is left behind it; not an Option of a pair, since the theorems on numbers name these two cases
 pub data Found : Type 0 where
   found : ℕ → List ℕ → Found
   none : Found

@@ -23,7 +23,7 @@ fits (number ok next) (n ∷ row) = ltb n (2 ^ 64) && (ok n && fits (next n) row
 
 -- ---- reading
 
--- what a row holds, and the bytes that are left behind it
+-- what a row holds, and the bytes that are left behind it; not an Option of a pair, for the same reason as Found
 pub data Read (A : Type 0) : Type 0 where
   held : A → List ℕ → Read A
   wrong : Read A

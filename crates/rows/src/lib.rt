@@ -43,15 +43,15 @@ pub fn take(s: &[u8], at: usize) -> Option<Taken<u64>>
     }
     let mut v = first - 128;
     let mut w = 128u64;
-    for p in at + 1..at + 9 {
-        let b = u64::from(*s.get(p)?);
+    for i in 1..9 {
+        let b = u64::from(*s.get(at + i)?);
         if b == 0 {
             return None;
         }
         if b < 128 {
             return Some(Taken {
                 value: v + w * b,
-                next: p + 1,
+                next: at + i + 1,
             });
         }
         v += w * (b - 128);
