@@ -2,7 +2,7 @@
 use Rattle.std.specs.Prelude.{ℕ, ◌+◌, ◌-◌, ◌≤◌, ◌<◌, true, false, List, [], ◌∷◌, ◌++◌, ◌≡◌, refl, length, take, drop, get_or, set}
 use Rattle.std.proofs.Math.Numerals.{add-one}
 use native.Mathlib.Omega.{arith}
-use Rattle.std.proofs.Common.{append_assoc, append-nil, ap, ◌∙◌, length-set, drop_of_length-le, take-append-drop, drop-cons, length-take-le, drop-drop}
+use Rattle.std.proofs.Common.{append_assoc, append-nil, ap, ◌∙◌, length-set, take-append-drop, drop-cons, length-take-le, drop-drop}
 use Rattle.std.proofs.Math.Path.{sym}
 use Rattle.std.proofs.Math.Seq.{take-suc-set, set_out}
 use borrow.Author.Tests.{eq-eqb, ne_eqb, lt-ltb, le-ltb}

@@ -107,6 +107,23 @@ pub fn put_outcome(out: &mut [u8], at: usize, outcome: Outcome) -> usize
     put_progress(out, j, outcome.progress)
 }
 
+impl Fault {
+    // No Display: what a formatter writes has no contract on its bytes, and a reply promises each of them.
+    fn text(self) -> &'static [u8]
+        ensures value { result.now ≡ fault_text self }
+        ensures upper_bound { length result.now ≤ 15 }
+    {
+        match self {
+            Fault::Empty => b"error empty\n",
+            Fault::Method => b"error method\n",
+            Fault::Count => b"error count\n",
+            Fault::Number => b"error number\n",
+            Fault::Limit => b"error limit\n",
+            Fault::Trailing => b"error trailing\n",
+        }
+    }
+}
+
 // A line for what is not a call.
 pub fn put_fault(out: &mut [u8], at: usize, why: Fault) -> usize
     requires { at + 156 ≤ length out.old }
