@@ -17,7 +17,8 @@ pub enum Fault {
     Trailing,
 }
 
-// A call, but for its coefficients: those are the first `count` doubles of an array beside it.
+// A call, but for its coefficients: those are the first `count` doubles of an array beside it, which the caller lends, since there
+// is no heap.
 #[derive(Clone, Copy)]
 pub struct Call {
     pub method: Method,

@@ -65,6 +65,7 @@ impl Desk {
 }
 
 // A proved loop has to end, and nothing says that the input does: so the turns are counted, up to a number that no run reaches.
+// `lines` and `record` have this loop and `read_block` each: a shared one would ask for a trait with two methods in `line_text`.
 fn main(rt: HostRuntime) {
     let mut desk = Desk {
         line: [0; 1024],

@@ -6,6 +6,7 @@ ghost use Rattle.record_text.specs.RecordTexts.{pair, hex_bytes};
 
 use line_text::text;
 
+// Not char::from_digit, which answers an Option of a char.
 fn digit(n: u8) -> u8
     requires { n < 16 }
     ensures { result ≡ hex_digit_ascii n }
