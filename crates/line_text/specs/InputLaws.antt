@@ -2,7 +2,7 @@
 use Rattle.std.specs.Prelude.{ℕ, ◌+◌, ◌-◌, ◌≤◌, ◌<◌, true, false, List, [], ◌∷◌, ◌++◌, ◌≡◌, refl, length, take, drop, get_or, set}
 use Rattle.std.proofs.Math.Numerals.{add-one}
 use native.Mathlib.Omega.{arith}
-use Rattle.std.proofs.Common.{append_assoc, append-nil, ap, ◌∙◌, length-set, drop_of_length-le, take-append-drop, drop-cons, length-take-le, drop-drop}
+use Rattle.std.proofs.Common.{append_assoc, append-nil, ap, ◌∙◌, length-set, take-append-drop, drop-cons, length-take-le, drop-drop}
 use Rattle.std.proofs.Math.Path.{sym}
 use Rattle.std.proofs.Math.Seq.{take-suc-set, set_out}
 use borrow.Author.Tests.{eq-eqb, ne_eqb, lt-ltb, le-ltb}
@@ -135,6 +135,3 @@ module _ (block line : List ℕ) (s : State) (at : ℕ) (line' : List ℕ) (r : 
 
       same : line_after (length line) (line_of line'' q) (drop i block) ≡ line_after (length line) (line_of line' r) (drop at block)
       same = sym (ap (line_after (length line) (line_of line' r)) whole ∙ rw (line_in_blocks, ← e, f.begun))
-
-  pub part_last : length block ≤ at → line_of line' r ≡ line_after (length line) (line_of line s) block
-  part_last h = rw (drop_of_length-le block h) at k

@@ -1,6 +1,5 @@
 // A line taken apart: METHOD COUNT A0 .. START [START] VALUE_TOLERANCE POINT_TOLERANCE LIMIT.
 ghost use Rattle.std.specs.Prelude.{◌≡◌, ◌+◌, ◌≤◌, length};
-ghost use Rattle.line_text.specs.Texts.{fault_text};
 ghost use Rattle.line_text.specs.Calls.{Filled, method_number, ReadAs, filled_with, count_fills, line_fills, doubles, with_limit, with_doubles, with_count, asked_of};
 
 use crate::{digits, fields};
@@ -18,24 +17,8 @@ pub enum Fault {
     Trailing,
 }
 
-impl Fault {
-    // No Display: what a formatter writes has no contract on its bytes, and a reply promises each of them.
-    pub(crate) fn text(self) -> &'static [u8]
-        ensures value { result.now ≡ fault_text self }
-        ensures upper_bound { length result.now ≤ 15 }
-    {
-        match self {
-            Fault::Empty => b"error empty\n",
-            Fault::Method => b"error method\n",
-            Fault::Count => b"error count\n",
-            Fault::Number => b"error number\n",
-            Fault::Limit => b"error limit\n",
-            Fault::Trailing => b"error trailing\n",
-        }
-    }
-}
-
-// A call, but for its coefficients: those are the first `count` doubles of an array beside it.
+// A call, but for its coefficients: those are the first `count` doubles of an array beside it, which the caller lends, since there
+// is no heap.
 #[derive(Clone, Copy)]
 pub struct Call {
     pub method: Method,

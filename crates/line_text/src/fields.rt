@@ -3,14 +3,15 @@ ghost use Rattle.std.specs.Prelude.{◌≡◌, ◌≤◌, eqb, not, length};
 ghost use Rattle.std.specs.List.{position_or_len};
 ghost use Rattle.line_text.specs.Fields.{Field};
 
-// A part of a line, from one index up to another.
+// A part of a line, from one index up to another. No Range, which is no Copy and may begin behind its end.
 #[derive(Clone, Copy)]
 pub struct Span {
     pub from: usize,
     pub to: usize,
 }
 
-// How many spaces stand in front.
+// How many spaces stand in front. This and the next differ in a test: one function for both would take it as a closure, with a
+// clause on what the closure answers, and be longer than the two.
 fn spaces(t: &[u8]) -> usize
     ensures value { result ≡ position_or_len (λ b. not (eqb b 32)) t.now }
     ensures upper_bound { result ≤ length t.now }

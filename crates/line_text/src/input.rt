@@ -4,7 +4,7 @@ ghost use Rattle.line_text.specs.Inputs.{Fine, Taken, Fed, stops_at};
 
 use crate::reply;
 
-// Where things stand between two bytes.
+// Where things stand between two bytes. The line and the replies stand in buffers of a program, in fixed memory with no heap.
 #[derive(Clone, Copy)]
 pub struct State {
     // How many bytes of the present line are kept, and whether there were more than can be.

@@ -7,6 +7,8 @@ use crate::call::Fault;
 use numerical::{Answer, Outcome, Progress};
 
 // Copies t into out from `at` on, and answers where it ends.
+// The buffer and an index stay two parameters, here and in all that puts text: a struct that lends the buffer asks each contract
+// for one clause more, that it still lends the caller's, and says no less otherwise.
 pub fn put(out: &mut [u8], at: usize, t: &[u8]) -> usize
     requires { at + length t.now ≤ length out.old }
     ensures { Put out.old at t.now out.new result }
@@ -71,7 +73,7 @@ pub fn put_doubles(out: &mut [u8], at: usize, numbers: &[f64]) -> usize
     p
 }
 
-// The numbers that an answer carries.
+// The numbers that an answer carries. `Answer::numbers` has three of each answer, and a count would have to stand beside it.
 fn put_numbers(out: &mut [u8], at: usize, answer: Answer) -> usize
     requires { at + 51 ≤ length out.old }
     ensures put { Put out.old at (numbers_text (numbers_of answer)) out.new result }
@@ -105,6 +107,23 @@ pub fn put_outcome(out: &mut [u8], at: usize, outcome: Outcome) -> usize
     let i = put_decimal(out, at, outcome.answer.kind(), b' ');
     let j = put_numbers(out, i, outcome.answer);
     put_progress(out, j, outcome.progress)
+}
+
+impl Fault {
+    // No Display: what a formatter writes has no contract on its bytes, and a reply promises each of them.
+    fn text(self) -> &'static [u8]
+        ensures value { result.now ≡ fault_text self }
+        ensures upper_bound { length result.now ≤ 15 }
+    {
+        match self {
+            Fault::Empty => b"error empty\n",
+            Fault::Method => b"error method\n",
+            Fault::Count => b"error count\n",
+            Fault::Number => b"error number\n",
+            Fault::Limit => b"error limit\n",
+            Fault::Trailing => b"error trailing\n",
+        }
+    }
 }
 
 // A line for what is not a call.

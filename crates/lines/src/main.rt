@@ -65,6 +65,8 @@ impl Desk {
 }
 
 // A proved loop has to end, and nothing says that the input does: so the turns are counted, up to a number that no run reaches.
+// `lines` and `record` have this loop and `read_block` each: one for both would be a public function of line_text over a trait, and
+// its contract could say nothing, since none can say what the input holds. Each of the library's fixes its result.
 fn main(rt: HostRuntime) {
     let mut desk = Desk {
         line: [0; 1024],

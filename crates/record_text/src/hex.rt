@@ -6,6 +6,7 @@ ghost use Rattle.record_text.specs.RecordTexts.{pair, hex_bytes};
 
 use line_text::text;
 
+// Not char::from_digit, which answers an Option of a char.
 fn digit(n: u8) -> u8
     requires { n < 16 }
     ensures { result ≡ hex_digit_ascii n }
@@ -32,10 +33,8 @@ pub fn put_bytes(out: &mut [u8], at: usize, s: &[u8]) -> usize
     ensures value { result ≡ at + 2 * length s.now }
 {
     let mut p = at;
-    let mut i = 0;
-    while i < s.len() {
-        p = put_pair(out, p, s[i]);
-        i += 1;
+    for b in s {
+        p = put_pair(out, p, *b);
     }
     p
 }

@@ -3,7 +3,7 @@
 
 #![tactic(auto)]
 
-ghost use Rattle.std.specs.Prelude.{true, ◌≡◌, ◌+◌, ◌-◌, ◌≤◌, ◌<◌, length, take, drop};
+ghost use Rattle.std.specs.Prelude.{◌≡◌, ◌+◌, ◌-◌, ◌≤◌, ◌<◌, length, take, drop, IfSome};
 ghost use Rattle.record_text.specs.RecordTexts.{longest_line};
 ghost use Rattle.records.specs.Records.{longest_record};
 ghost use Rattle.show.specs.Streams.{Filled};
@@ -12,26 +12,11 @@ use record_text::record::LONGEST_LINE;
 use records::Record;
 use std::io::{Read, Stdin, Stdout, Write};
 
-// Up to which byte a part of a block is shown, how many bytes of lines wait, and whether each was of a record.
+// How many bytes of lines wait, and where a block goes on behind them, if each is of a record.
 #[derive(Clone, Copy)]
 struct Pause {
-    at: usize,
     waiting: usize,
-    is_right: bool,
-}
-
-// Up to which byte a block is shown, and whether to go on.
-#[derive(Clone, Copy)]
-struct Reached {
-    at: usize,
-    is_open: bool,
-}
-
-// How many bytes at the front of the buffer are left to be shown, and whether to go on.
-#[derive(Clone, Copy)]
-struct Turn {
-    kept: usize,
-    is_open: bool,
+    next: Option<usize>,
 }
 
 // Puts the lines of records from an index on, while `least` bytes are left and another line finds room.
@@ -44,50 +29,37 @@ fn fill(block: &[u8], from: usize, least: usize, out: &mut [u8]) -> Pause
     while least <= block.len() - at {
         let shown = record_text::record::put_first(out, waiting, &block[at..]);
         waiting = shown.end;
-        if shown.taken == 0 {
+        let Some(n) = shown.taken else {
             return Pause {
-                at,
                 waiting,
-                is_right: false,
+                next: None,
             };
-        }
-        at += shown.taken;
+        };
+        at += n;
         if out.len() - LONGEST_LINE < waiting {
             break;
         }
     }
     Pause {
-        at,
         waiting,
-        is_right: true,
+        next: Some(at),
     }
 }
 
-// Writes lines, and tells whether all of them could be written.
-fn written(mut output: Stdout, lines: &[u8]) -> bool {
-    output.write_all(lines).is_ok()
-}
-
-// Shows a block while `least` bytes are left of it. Each time the lines have filled their buffer they are written.
-fn shown(output: Stdout, block: &[u8], least: usize, out: &mut [u8]) -> Reached
+// Shows a block while `least` bytes are left of it, and tells up to where, if it goes on. Each time the lines have filled
+// their buffer they are written.
+fn shown(mut output: Stdout, block: &[u8], least: usize, out: &mut [u8]) -> Option<usize>
     requires { (1 ≤ least) × (longest_line ≤ length out.old) }
-    ensures at_in_bounds { result.at ≤ length block.now }
-    ensures block_len_bound { result.is_open ≡ true → length block.now < result.at + least }
+    ensures at_in_bounds { IfSome result (λ at. at ≤ length block.now) }
+    ensures block_len_bound { IfSome result (λ at. length block.now < at + least) }
 {
     let mut at = 0;
     while least <= block.len() - at {
         let p = fill(block, at, least, out);
-        let waiting = p.waiting;
-        let is_written = written(output, &out[..waiting]);
-        if !is_written {
-            return Reached { at, is_open: false };
-        }
-        if !p.is_right {
-            return Reached { at, is_open: false };
-        }
-        at = p.at;
+        output.write_all(&out[..p.waiting]).ok()?;
+        at = p.next?;
     }
-    Reached { at, is_open: true }
+    Some(at)
 }
 
 // Moves the bytes from one index up to another to the front, and tells how many they are.
@@ -96,25 +68,8 @@ fn moved(block: &mut [u8], from: usize, to: usize) -> usize
     ensures value { result ≡ to - from }
     ensures block_after { take result block.new ≡ take result (drop from block.old) }
 {
-    let n = to - from;
-    let mut i = 0;
-    while i < n {
-        block[i] = block[from + i];
-        i += 1;
-    }
-    n
-}
-
-// Shows what is left at the input's end.
-fn closed(output: Stdout, block: &[u8], out: &mut [u8]) -> Turn
-    requires { longest_line ≤ length out.old }
-    ensures { result.kept ≡ 0 }
-{
-    shown(output, block, 1, out);
-    Turn {
-        kept: 0,
-        is_open: false,
-    }
+    block.copy_within(from..to, 0);
+    to - from
 }
 
 // Reads as many bytes as have come and find room, and tells how many they are. A read that fails counts as the input's end.
@@ -124,44 +79,37 @@ fn read_some(mut input: Stdin, room: &mut [u8]) -> usize
     input.read(room).unwrap_or(0)
 }
 
-// Reads what comes behind the bytes that are left, and shows its records. What is refused with as many bytes at
-// hand as the longest record has is no record, whatever follows.
-fn read_block(input: Stdin, output: Stdout, block: &mut [u8], kept: usize, out: &mut [u8]) -> Turn
+// Reads what comes behind the bytes that are left, shows its records, and tells how many bytes at the front of the buffer are
+// left then, if to go on. What is refused with as many bytes at hand as the longest record has is no record, whatever follows.
+fn read_block(
+    input: Stdin,
+    output: Stdout,
+    block: &mut [u8],
+    kept: usize,
+    out: &mut [u8],
+) -> Option<usize>
     requires { (kept ≤ longest_record) × (longest_record < length block.old) × (longest_line ≤ length out.old) }
-    ensures { result.kept ≤ longest_record }
+    ensures { IfSome result (λ n. n ≤ longest_record) }
 {
     let n = read_some(input, &mut block[kept..]);
     if n == 0 {
-        return closed(output, &block[..kept], out);
+        let _ = shown(output, &block[..kept], 1, out);
+        return None;
     }
     let end = kept + n;
-    let s = shown(output, &block[..end], Record::LONGEST, out);
-    if s.is_open {
-        return Turn {
-            kept: moved(block, s.at, end),
-            is_open: true,
-        };
-    }
-    Turn {
-        kept: 0,
-        is_open: false,
-    }
+    let at = shown(output, &block[..end], Record::LONGEST, out)?;
+    Some(moved(block, at, end))
 }
 
-// A proved loop has to end, and nothing says that the input does: so the turns are counted down, from a number that no
-// run uses up.
+// A proved loop has to end, and nothing says that the input does: so the turns are counted, up to a number that no run reaches.
 fn main(rt: HostRuntime) {
-    let input = rt.stdin();
-    let output = rt.stdout();
     let mut block = io::large_buffer();
     let mut out = io::large_buffer();
     let mut kept = 0;
-    let mut is_open = true;
-    let mut turns = u64::MAX;
-    while turns > 0 && is_open {
-        let t = read_block(input, output, &mut block, kept, &mut out);
-        kept = t.kept;
-        is_open = t.is_open;
-        turns -= 1;
+    for _ in 0..u64::MAX {
+        let Some(left) = read_block(rt.stdin(), rt.stdout(), &mut block, kept, &mut out) else {
+            break;
+        };
+        kept = left;
     }
 }
