@@ -8,7 +8,7 @@ ghost use Rattle.std.specs.Prelude.{◌+◌, ◌<◌, ◌≤◌, length, take, f
 ghost use Rattle.line_text.specs.Texts.{Put};
 ghost use Rattle.records.specs.Records.{longest_record};
 ghost use Rattle.replay.specs.Courses.{Bounded, Follows, Goes, Room, Within, block_length, course_of, may_go_on, most_bytes_in_all};
-ghost use Rattle.replay.specs.VerdictTexts.{difference_text, hex_field, is_number, longest_line, place_text, value_text, verdict_text};
+ghost use Rattle.replay.specs.VerdictTexts.{difference_text, is_number, longest_line, place_text, value_text, verdict_text};
 
 use line_text::text;
 use playback::{Difference, Field, Playback};
@@ -45,18 +45,6 @@ fn is_number(field: Field) -> bool
     matches!(field, Field::First | Field::Second | Field::Third)
 }
 
-// A number of 64 bits in 16 hexadecimal digits, and a byte after it.
-fn put_hex(out: &mut [u8], at: usize, n: u64, after: u8) -> usize
-    requires { at + 17 ≤ length out.old }
-    ensures put { Put out.old at (hex_field n after) out.new result }
-    ensures value { result ≡ at + 17 }
-{
-    let mut digits = [0u8; 16];
-    let k = io::hex(n, 16, &mut digits);
-    let p = text::put(out, at, &digits[..k]);
-    text::put_byte(out, p, after)
-}
-
 // What a field holds, and a byte after it.
 fn put_value(out: &mut [u8], at: usize, field: Field, n: u64, after: u8) -> usize
     requires { at + 21 ≤ length out.old }
@@ -64,7 +52,7 @@ fn put_value(out: &mut [u8], at: usize, field: Field, n: u64, after: u8) -> usiz
     ensures upper_bound { result ≤ at + 21 }
 {
     if is_number(field) {
-        put_hex(out, at, n, after)
+        text::put_hex(out, at, n, after)
     } else {
         text::put_decimal(out, at, n, after)
     }
