@@ -135,6 +135,3 @@ module _ (block line : List ℕ) (s : State) (at : ℕ) (line' : List ℕ) (r : 
 
       same : line_after (length line) (line_of line'' q) (drop i block) ≡ line_after (length line) (line_of line' r) (drop at block)
       same = sym (ap (line_after (length line) (line_of line' r)) whole ∙ rw (line_in_blocks, ← e, f.begun))
-
-  pub part_last : length block ≤ at → line_of line' r ≡ line_after (length line) (line_of line s) block
-  part_last h = rw (drop_of_length-le block h) at k

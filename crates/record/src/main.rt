@@ -11,11 +11,13 @@ ghost use Rattle.line_text.specs.Inputs.{Begun, line_of, next_line};
 use line_text::input::State;
 use std::io::{Read, Stdin, Stdout, Write};
 
-// Where things stand, and whether to go on. No reply ever waits: each is written at once.
-#[derive(Clone, Copy)]
-struct Turn {
+// The line that has begun, in its buffer, and a buffer for a reply. No reply ever waits: each is written at once.
+#[derive(Drop)]
+struct Desk {
+    line: [u8; 1024],
+    out: [u8; 4096],
     state: State,
-    is_open: bool,
+    ghost kept_in_bounds: { state.kept ≤ length line },
 }
 
 // Writes the reply to a line, and tells whether all of it could be written.
@@ -26,117 +28,88 @@ fn reply(mut output: Stdout, line: &[u8], is_long: bool, out: &mut [u8]) -> bool
     output.write_all(&out[..end]).is_ok()
 }
 
-// One more byte: a line's end has its reply written, any other byte is kept if there is room.
-fn taken(output: Stdout, line: &mut [u8], out: &mut [u8], s: State, b: u8) -> Turn
-    requires { (s.kept ≤ length line.old) × (longest_reply ≤ length out.old) }
-    ensures kept_in_bounds { result.state.kept ≤ length line.new }
-    ensures state_after { line_of line.new result.state ≡ next_line (length line.old) (line_of line.old s) b }
-{
-    let kept = s.kept;
-    let is_long = s.is_long;
-    if b == b'\n' {
-        let is_open = reply(output, &line[..kept], is_long, out);
-        return Turn {
-            state: State {
+impl Desk {
+    // One more byte: a line's end has its reply written, any other byte is kept if there is room. Tells whether all could be written.
+    fn take(&mut self, output: Stdout, b: u8) -> bool
+        ensures state_after { line_of self.new.line self.new.state ≡ next_line (length self.old.line) (line_of self.old.line self.old.state) b }
+        ensures len { length self.new.line ≡ length self.old.line }
+    {
+        let kept = self.state.kept;
+        if b == b'\n' {
+            let is_written = reply(
+                output,
+                &self.line[..kept],
+                self.state.is_long,
+                &mut self.out,
+            );
+            self.state = State {
                 kept: 0,
                 is_long: false,
                 waiting: 0,
-            },
-            is_open,
-        };
+            };
+            return is_written;
+        }
+        if kept < self.line.len() {
+            self.line[kept] = b;
+            self.state.kept = kept + 1;
+        } else {
+            self.state.is_long = true;
+        }
+        true
     }
-    if kept < line.len() {
-        line[kept] = b;
-        return Turn {
-            state: State {
-                kept: kept + 1,
-                is_long,
-                waiting: 0,
-            },
-            is_open: true,
-        };
+
+    // Answers the lines of a block, and tells whether all replies could be written.
+    fn answer(&mut self, output: Stdout, block: &[u8]) -> bool
+        ensures { Begun block.now self.old.line self.old.state self.new.line result self.new.state }
+    {
+        for b in block {
+            if !self.take(output, *b) {
+                return false;
+            }
+        }
+        true
     }
-    Turn {
+
+    // At the input's end: the last line may lack its line feed.
+    fn close(&mut self, output: Stdout) {
+        let kept = self.state.kept;
+        if 0 < kept {
+            reply(
+                output,
+                &self.line[..kept],
+                self.state.is_long,
+                &mut self.out,
+            );
+        }
+    }
+
+    // Reads a block, of as many bytes as have come, answers its lines, and tells whether to go on. A read that fails counts as
+    // the input's end.
+    fn read_block(&mut self, mut input: Stdin, output: Stdout) -> bool {
+        let mut block = io::large_buffer();
+        let n = input.read(&mut block).unwrap_or(0);
+        if n == 0 {
+            self.close(output);
+            return false;
+        }
+        self.answer(output, &block[..n])
+    }
+}
+
+// A proved loop has to end, and nothing says that the input does: so the turns are counted, up to a number that no run reaches.
+fn main(rt: HostRuntime) {
+    let mut desk = Desk {
+        line: [0; 1024],
+        out: io::buffer(),
         state: State {
-            kept,
-            is_long: true,
+            kept: 0,
+            is_long: false,
             waiting: 0,
         },
-        is_open: true,
-    }
-}
-
-// Answers the lines of a block.
-fn answered(output: Stdout, block: &[u8], line: &mut [u8], out: &mut [u8], start: State) -> Turn
-    requires { (start.kept ≤ length line.old) × (longest_reply ≤ length out.old) }
-    ensures kept_in_bounds { result.state.kept ≤ length line.new }
-    ensures begun { Begun block.now line.old start line.new result.is_open result.state }
-{
-    let mut s = start;
-    let mut i = 0;
-    while i < block.len() {
-        let t = taken(output, line, out, s, block[i]);
-        s = t.state;
-        if !t.is_open {
-            return Turn {
-                state: s,
-                is_open: false,
-            };
-        }
-        i += 1;
-    }
-    Turn {
-        state: s,
-        is_open: true,
-    }
-}
-
-// At the input's end: the last line may lack its line feed.
-fn closed(output: Stdout, line: &[u8], out: &mut [u8], s: State) -> Turn
-    requires { (s.kept ≤ length line.now) × (longest_reply ≤ length out.old) }
-    ensures { result.state.kept ≤ length line.now }
-{
-    let kept = s.kept;
-    if 0 < kept {
-        reply(output, &line[..kept], s.is_long, out);
-    }
-    Turn {
-        state: s,
-        is_open: false,
-    }
-}
-
-// Reads a block, of as many bytes as have come, and answers its lines. A read that fails counts as the input's end.
-fn read_block(mut input: Stdin, output: Stdout, line: &mut [u8], out: &mut [u8], s: State) -> Turn
-    requires { (s.kept ≤ length line.old) × (longest_reply ≤ length out.old) }
-    ensures { result.state.kept ≤ length line.new }
-{
-    let mut block = io::large_buffer();
-    let n = input.read(&mut block).unwrap_or(0);
-    if n == 0 {
-        return closed(output, line, out, s);
-    }
-    answered(output, &block[..n], line, out, s)
-}
-
-// A proved loop has to end, and nothing says that the input does: so the turns are counted down, from a number that no
-// run uses up.
-fn main(rt: HostRuntime) {
-    let input = rt.stdin();
-    let output = rt.stdout();
-    let mut line = [0u8; 1024];
-    let mut out = io::buffer();
-    let mut s = State {
-        kept: 0,
-        is_long: false,
-        waiting: 0,
     };
-    let mut is_open = true;
-    let mut turns = u64::MAX;
-    while turns > 0 && is_open {
-        let t = read_block(input, output, &mut line, &mut out, s);
-        s = t.state;
-        is_open = t.is_open;
-        turns -= 1;
+    for _ in 0..u64::MAX {
+        if !desk.read_block(rt.stdin(), rt.stdout()) {
+            break;
+        }
     }
 }

@@ -2,7 +2,6 @@
 pub mod RecordTexts
 -- what proofs cite
 pub mod RecordTextLaws
-pub mod PrefixLaws
 pub mod RecordReplyLaws
 pub mod RefusalLaws
 pub mod Examples

@@ -1,10 +1,7 @@
 -- A call line's reply: a record written and put down as digits.
-use Rattle.std.specs.Prelude.{ℕ, ◌+◌, ◌-◌, ◌*◌, ◌≤◌, ◌<◌, Bool, cond, List, [], ◌∷◌, ◌++◌, ◌≡◌, refl, length, take, drop, set, get_or, Float}
-use Rattle.std.proofs.Common.{eq-zero-or-pos, add-one, arith, append-nil, inl, inr, sym, ap, ◌∙◌, length-set, length-append, drop_of_length-le, take_all, take_at, take-take}
-use Rattle.std.proofs.Math.Bool.{true, false}
-use Rattle.std.proofs.Math.Dec.{ltb}
-use Rattle.std.proofs.Math.Seq.{length-take-le, paste, paste-zero, paste-suc}
-use Rattle.std.specs.Float.{nan}
+use Rattle.std.specs.Prelude.{ℕ, ◌-◌, ◌≤◌, ◌<◌, Bool, true, false, cond, List, [], ◌∷◌, ◌++◌, ◌≡◌, refl, ltb, length, take, drop, Float, Option, Result, Ok, Err, unwrap_or}
+use Rattle.std.proofs.Common.{eq-zero-or-pos, arith, inl, inr, sym, ap, ◌∙◌, length-append, take_all, take_at, take-take}
+use Rattle.std.proofs.Math.Seq.{length-take-le}
 use borrow.Author.Tests.{le-ltb}
 use Rattle.numerical.specs.declared.Outcome.{Outcome}
 use Rattle.roots.specs.Calls.{answer}
@@ -13,70 +10,33 @@ use Rattle.records.specs.Records.{call_row, row_of, record_layout, holds_both, r
 use Rattle.records.proofs.RoundLaws.{recordable_parts}
 use Rattle.records.proofs.BackLaws.{at_most_longest}
 use Rattle.records.specs.declared.Record.{Record}
-use Rattle.records.specs.declared.Verdict.{Verdict}
-use Rattle.records.specs.declared.Verdict.TheVariants as verdict
+use Rattle.records.specs.declared.Refusal.{Refusal}
+use Rattle.records.specs.declared.Refusal.TheVariants.{NoRoom, NoRecord}
 use Rattle.line_text.specs.Calls.{asked_of, asked_by, ReadAs}
-use Rattle.line_text.specs.Texts.{Put, bytes, fault_text, trimmed}
+use Rattle.line_text.specs.Texts.{Put, fault_text, trimmed}
 use Rattle.line_text.specs.TextLaws.{put_both}
 use Rattle.line_text.specs.declared.call.Call.{Call}
 use Rattle.line_text.specs.declared.call.Fault.{Fault}
-use Rattle.line_text.specs.declared.call.Reading.{Reading}
-use Rattle.line_text.specs.declared.call.Reading.TheVariants as reading
-use Rattle.record_text.specs.RecordTexts.{longest_reply, hex_bytes, refused_text, refusal_of, recorded_text, record_of, recorded, record_reply, line_record}
-
--- ---- the copy of the coefficients
-
--- i of 16 are copied
-pub record Fronting (before a now : List Float) (i : ℕ) : Type 0 where
-  pub begun : length before ≡ 16
-  pub long : length now ≡ 16
-  pub enough : 16 ≤ length a
-  pub count : i ≤ 16
-  pub is : now ≡ paste before 0 a i
-
-pub front_starts : (before a : List Float) → length before ≡ 16 → 16 ≤ length a → Fronting before a before 0
-front_starts before a l h = record { begun = l; long = l; enough = h; count = omega arith; is = paste-zero before 0 a }
-
-all_pasted : (before a : List Float) (m : ℕ) → length before ≤ m → paste before 0 a m ≡ take m a
-all_pasted before a m h = let place : 0 + m ≡ m = omega arith in rw (place, drop_of_length-le before h, append-nil)
-
-module _ {before a now : List Float} {i : ℕ} (g : Fronting before a now i) where
-  pub front_on : i < 16 → Fronting before a (set now i (get_or a i nan)) (i + 1)
-  front_on h = record { begun = g.begun; long = length-set now i (get_or a i nan) ∙ g.long; enough = g.enough; count = omega arith; is = pasted }
-    where
-      place : 0 + i ≡ i
-      place = omega arith
-
-      pasted : set now i (get_or a i nan) ≡ paste before 0 a (i + 1)
-      pasted =
-          let l = g.begun in
-          let e = g.enough in
-          ap (λ (k : ℕ). set now k (get_or a i nan)) (sym place) ∙ rw (g.is, add-one i) (paste-suc before 0 a i nan (omega arith) (omega arith))
-
-  pub front_done : 16 ≤ i → now ≡ take 16 a
-  front_done h = g.is ∙ ap (λ (k : ℕ). paste before 0 a k) same ∙ all_pasted before a 16 (let l = g.begun in omega arith)
-    where
-      same : i ≡ 16
-      same = let c = g.count in omega arith
+use Rattle.record_text.specs.RecordTexts.{hex_bytes, refused_text, refusal_of, recorded_text, record_of, recorded, record_reply}
 
 -- ---- a record written, or refused
 
 record_short : (o : Record) → recordable o ≡ true → length (bytes_of o) ≤ longest_record
 record_short o h = at_most_longest (fits_row record_layout (row_of o) (recordable_parts o h).1).1
 
--- what the verdict of writing tells
-bytes_told : (b c : Bool) (k n : ℕ) → cond b (cond c (verdict.Refused 10) (verdict.Bytes k)) (verdict.Refused 11) ≡ verdict.Bytes n → (b ≡ true) × (k ≡ n)
+-- what the result of writing tells
+bytes_told : (b c : Bool) (k n : ℕ) → cond b (cond c (Err NoRoom) (Ok k)) (Err NoRecord) ≡ Ok n → (b ≡ true) × (k ≡ n)
 bytes_told true false k n e = (refl, cc)
-bytes_told true true k n e = absurd (let z : ◌≡◌ {A = ℕ} 0 1 = cc in omega arith)
-bytes_told false c k n e = absurd (let z : ◌≡◌ {A = ℕ} 0 1 = cc in omega arith)
+bytes_told true true k n e = cc
+bytes_told false c k n e = cc
 
-refusal_told : (b c : Bool) (k n : ℕ) → (b ≡ true → c ≡ false) → cond b (cond c (verdict.Refused 10) (verdict.Bytes k)) (verdict.Refused 11) ≡ verdict.Refused n → b ≡ false
-refusal_told false c k n h e = refl
-refusal_told true false k n h e = absurd (let z : ◌≡◌ {A = ℕ} 0 1 = cc in omega arith)
-refusal_told true true k n h e = absurd (let q = h refl in let z : ◌≡◌ {A = ℕ} 0 1 = cc in omega arith)
+refusal_told : (b c : Bool) (k : ℕ) (refusal : Refusal) → (b ≡ true → c ≡ false) → cond b (cond c (Err NoRoom) (Ok k)) (Err NoRecord) ≡ Err refusal → b ≡ false
+refusal_told false c k refusal h e = refl
+refusal_told true false k refusal h e = cc
+refusal_told true true k refusal h e = let q = h refl in cc
 
-module _ (o : Record) (before : List ℕ) {v : Verdict} (x : v ≡ written_to o (length before)) where
-  module _ {aside : List ℕ} (y : aside ≡ left_by o before (written_to o (length before))) {n : ℕ} (e : v ≡ verdict.Bytes n) where
+module _ (o : Record) (before : List ℕ) {v : Result ℕ Refusal} (x : v ≡ written_to o (length before)) where
+  module _ {aside : List ℕ} (y : aside ≡ left_by o before (written_to o (length before))) {n : ℕ} (e : v ≡ Ok n) where
     both_told : (recordable o ≡ true) × (length (bytes_of o) ≡ n)
     unfolding written_to
     both_told = bytes_told (recordable o) (ltb (length before) (length (bytes_of o))) (length (bytes_of o)) n (sym x ∙ e)
@@ -87,38 +47,25 @@ module _ (o : Record) (before : List ℕ) {v : Verdict} (x : v ≡ written_to o 
     front : take n aside ≡ bytes_of o
     front = rw holds (take_at (bytes_of o) (drop n before) n both_told.1)
 
-    short : n ≤ longest_record
-    short = let l = record_short o both_told.0 in let m = both_told.1 in omega arith
-
     pub bytes_within : n ≤ length aside
     bytes_within = rw (holds, length-append (bytes_of o) (drop n before)) (let m = both_told.1 in omega arith)
 
     pub bytes_count : n ≡ length (take n aside)
     bytes_count = sym (ap length front ∙ both_told.1)
 
-    pub digits_room : (at len : ℕ) → at + longest_reply ≤ len → at + 2 * length (take n aside) ≤ len
-    digits_room at len h = let s = short in let c = bytes_count in omega arith
-
-    module _ (at : ℕ) (out out' : List ℕ) {p : ℕ} (q : p ≡ at + 2 * length (take n aside)) where
-      pub end_room : at + longest_reply ≤ length out → length out' ≡ length out → p < length out'
-      end_room h l = let s = short in let c = bytes_count in omega arith
-
-      pub recorded_ends : {out'' : List ℕ} {r : ℕ} → Put out' p (10 ∷ []) out'' r → r ≤ at + longest_reply
-      recorded_ends f = let s = short in let c = bytes_count in let z = f.ends in omega arith
-
     pub recorded_put : (at : ℕ) (out : List ℕ) {out' out'' : List ℕ} {p r : ℕ} → Put out at (hex_bytes (take n aside)) out' p → Put out' p (10 ∷ []) out'' r → Put out at (recorded_text o) out'' r
     unfolding recorded_text
     recorded_put at out f g = rw (both_told.0, ← front) (put_both f g)
 
-  pub unrecorded_put : {n k : ℕ} (at : ℕ) (out : List ℕ) {out' : List ℕ} {r : ℕ} → v ≡ verdict.Refused n → length before ≡ longest_record → k ≡ refusal_of o.outcome.answer → Put out at (refused_text k) out' r → Put out at (recorded_text o) out' r
+  pub unrecorded_put : {refusal : Refusal} {k : ℕ} (at : ℕ) (out : List ℕ) {out' : List ℕ} {r : ℕ} → v ≡ Err refusal → length before ≡ longest_record → {w : Option ℕ} → w ≡ refusal_of o.outcome.answer → k ≡ unwrap_or w 0 → Put out at (refused_text k) out' r → Put out at (recorded_text o) out' r
   unfolding recorded_text written_to
-  unrecorded_put {n} at out e l f g = rw (no_record, ← f) g
+  unrecorded_put {refusal} at out e l f h g = rw (no_record, ← f, ← h) g
     where
       roomy : recordable o ≡ true → ltb (length before) (length (bytes_of o)) ≡ false
       roomy h = le-ltb (length before) (length (bytes_of o)) (let s = record_short o h in omega arith)
 
       no_record : recordable o ≡ false
-      no_record = refusal_told (recordable o) (ltb (length before) (length (bytes_of o))) (length (bytes_of o)) n roomy (sym x ∙ e)
+      no_record = refusal_told (recordable o) (ltb (length before) (length (bytes_of o))) (length (bytes_of o)) refusal roomy (sym x ∙ e)
 
 -- ---- a call searched
 
@@ -137,9 +84,6 @@ same_front n a h = elim (eq-zero-or-pos (n - 16)) [ inl e ↦ few (omega arith) 
     many l = rw (take-take 16 n a (omega arith))
 
 module _ (a : List Float) (c : Call) (h : c.count ≤ length a) where
-  pub searched_count : c.count ≡ length (take c.count a)
-  searched_count = sym (length-take-le c.count a h)
-
   -- the record that the code makes, with the first 16 doubles of the array
   abbrev kept : List Float → Outcome → Record
   kept front o = record { kind = newest; coefficients = front; count = c.count; method = c.method; tolerances = c.tolerances; limit = c.limit; outcome = o }
@@ -153,22 +97,13 @@ module _ (a : List Float) (c : Call) (h : c.count ≤ length a) where
 
 -- ---- what was read, and its reply
 
-module _ (s t : List ℕ) {filled : List Float} (a : List Float) {r : Reading} (k : ReadAs (asked_of t) filled a r) (w : t ≡ trimmed s) where
+module _ (s t : List ℕ) {filled : List Float} (a : List Float) {r : Result Call Fault} (k : ReadAs (asked_of t) filled a r) (w : t ≡ trimmed s) where
   replies : recorded (asked_by r a) ≡ record_reply s
   unfolding record_reply
   replies = rw (k.is, w)
 
-  pub call_record : (before : List ℕ) (at : ℕ) {now : List ℕ} {p : ℕ} {c : Call} → r ≡ reading.Call c → Put before at (recorded_text (record_of (take c.count a) c.method c.tolerances c.limit)) now p → Put before at (record_reply s) now p
+  pub call_record : (before : List ℕ) (at : ℕ) {now : List ℕ} {p : ℕ} {c : Call} → r ≡ Ok c → Put before at (recorded_text (record_of (take c.count a) c.method c.tolerances c.limit)) now p → Put before at (record_reply s) now p
   call_record before at e g = rw (← replies, e) g
 
-  pub wrong_record : (before : List ℕ) (at : ℕ) {now : List ℕ} {p : ℕ} {why : Fault} → r ≡ reading.Wrong why → Put before at (fault_text why) now p → Put before at (record_reply s) now p
+  pub wrong_record : (before : List ℕ) (at : ℕ) {now : List ℕ} {p : ℕ} {why : Fault} → r ≡ Err why → Put before at (fault_text why) now p → Put before at (record_reply s) now p
   wrong_record before at e g = rw (← replies, e) g
-
--- ---- too long, or not
-
-module _ (long : Bool) (t before : List ℕ) (at : ℕ) {now : List ℕ} {p : ℕ} where
-  pub long_record : long ≡ true → Put before at (bytes "error too long\n") now p → Put before at (line_record long t) now p
-  long_record e g = rw e g
-
-  pub short_record : long ≡ false → Put before at (record_reply t) now p → Put before at (line_record long t) now p
-  short_record e g = rw e g

@@ -1,5 +1,5 @@
 -- Records as text. Definitions only.
-use Rattle.std.specs.Prelude.{ℕ, ◌+◌, ◌*◌, ◌/◌, ◌%◌, Bool, true, false, cond, List, [], ◌∷◌, ◌++◌, length, take, Float}
+use Rattle.std.specs.Prelude.{ℕ, ◌+◌, ◌*◌, ◌/◌, ◌%◌, Bool, true, false, cond, List, [], ◌∷◌, ◌++◌, length, take, flat_map, Float, Option, Some, None, Result, Ok, Err, unwrap_or}
 use Rattle.io.specs.Digits.{hex_digit_ascii}
 use Rattle.numerical.specs.declared.Answer.{Answer}
 use Rattle.numerical.specs.declared.Answer.TheVariants.{ByValue, ByWidth, Refused}
@@ -8,12 +8,11 @@ use Rattle.simple_convergency.specs.declared.Tolerances.{Tolerances}
 use Rattle.roots.specs.Calls.{starts_of, answer}
 use Rattle.roots.specs.Methods.{method_number}
 use Rattle.roots.specs.declared.Method.{Method}
-use Rattle.records.specs.Records.{recordable, longest_record, newest, bytes_of}
+use Rattle.records.specs.Records.{recordable, longest_record, newest, bytes_of, refusal_number}
 use Rattle.records.specs.declared.Record.{Record}
 use Rattle.records.specs.declared.Reading.{Reading}
-use Rattle.records.specs.declared.Verdict.{Verdict}
-use Rattle.records.specs.declared.Verdict.TheVariants as verdict
-use Rattle.line_text.specs.Calls.{Asked, call, no_call, asked_of}
+use Rattle.records.specs.declared.Refusal.{Refusal}
+use Rattle.line_text.specs.Calls.{Asked, asked_of}
 use Rattle.line_text.specs.Texts.{bytes, decimal_field, numbers_text, text_of, fault_text, trimmed}
 
 -- ---- how long
@@ -31,8 +30,7 @@ abbrev pub pair : ℕ → List ℕ
 pair b = hex_digit_ascii (b / 16) ∷ hex_digit_ascii (b % 16) ∷ []
 
 abbrev pub hex_bytes : List ℕ → List ℕ
-hex_bytes [] = []
-hex_bytes (b ∷ t) = pair b ++ hex_bytes t
+hex_bytes t = flat_map pair t
 
 -- ---- LENGTH RECORD_KIND METHOD COUNT A0 .. START [START] VALUE_TOLERANCE POINT_TOLERANCE LIMIT KIND NUMBERS.. STEPS VALUES DERIVATIVES MARK
 
@@ -56,39 +54,33 @@ unfoldable pub refused_text : ℕ → List ℕ
 refused_text n = bytes "refused " ++ decimal_field n 10
 
 -- what was read, as a line
-abbrev pub verdict_text : Verdict → Record → List ℕ
-verdict_text (verdict.Bytes n) r = record_text n r
-verdict_text (verdict.Refused n) r = refused_text n
+abbrev pub reading_text : Result Reading Refusal → List ℕ
+reading_text (Ok r) = record_text r.length r.content
+reading_text (Err refusal) = refused_text (refusal_number refusal)
 
-abbrev pub reading_text : Reading → List ℕ
-reading_text r = verdict_text r.verdict r.content
-
--- how many bytes it took: none where it was refused
-abbrev pub count_taken : Verdict → ℕ
-count_taken (verdict.Bytes n) = n
-count_taken (verdict.Refused n) = 0
-
-abbrev pub taken_by : Reading → ℕ
-taken_by r = count_taken r.verdict
+-- how many bytes it took, if it was not refused
+abbrev pub taken_by : Result Reading Refusal → Option ℕ
+taken_by (Ok r) = Some r.length
+taken_by (Err refusal) = None
 
 -- ---- the record of a call and its answer
 
-abbrev pub refusal_of : Answer → ℕ
-refusal_of (ByValue root value) = 0
-refusal_of (ByWidth root p q) = 0
-refusal_of (Refused n) = n
+abbrev pub refusal_of : Answer → Option ℕ
+refusal_of (ByValue root value) = None
+refusal_of (ByWidth root p q) = None
+refusal_of (Refused n) = Some n
 
 -- a call that is refused before any evaluation has no record
 unfoldable pub recorded_text : Record → List ℕ
-recorded_text r = cond (recordable r) (hex_bytes (bytes_of r) ++ (10 ∷ [])) (refused_text (refusal_of r.outcome.answer))
+recorded_text r = cond (recordable r) (hex_bytes (bytes_of r) ++ (10 ∷ [])) (refused_text (unwrap_or (refusal_of r.outcome.answer) 0))
 
 -- of the newest kind; of more than 16 coefficients it keeps 16, and is no record by its count
 abbrev pub record_of : List Float → Method → Tolerances → ℕ → Record
 record_of a method tolerances limit = record { kind = newest; coefficients = take most_coefficients a; count = length a; method = method; tolerances = tolerances; limit = limit; outcome = answer a method tolerances limit }
 
 abbrev pub recorded : Asked → List ℕ
-recorded (call a method tolerances limit) = recorded_text (record_of a method tolerances limit)
-recorded (no_call why) = fault_text why
+recorded (Ok r) = recorded_text (record_of r.coefficients r.method r.tolerances r.limit)
+recorded (Err why) = fault_text why
 
 unfoldable pub record_reply : List ℕ → List ℕ
 record_reply t = recorded (asked_of (trimmed t))

@@ -32,10 +32,8 @@ pub fn put_bytes(out: &mut [u8], at: usize, s: &[u8]) -> usize
     ensures value { result ≡ at + 2 * length s.now }
 {
     let mut p = at;
-    let mut i = 0;
-    while i < s.len() {
-        p = put_pair(out, p, s[i]);
-        i += 1;
+    for b in s {
+        p = put_pair(out, p, *b);
     }
     p
 }

@@ -1,52 +1,22 @@
 // The reply to a call line: the record of its call and answer, as hexadecimal digits.
 ghost use Rattle.std.specs.Prelude.{◌≡◌, ◌+◌, ◌≤◌, length, take};
-ghost use Rattle.line_text.specs.Texts.{Put, trimmed};
+ghost use Rattle.line_text.specs.Texts.{Put};
 ghost use Rattle.record_text.specs.RecordTexts.{longest_reply, refusal_of, record_of, recorded_text, record_reply, line_record};
 
 use crate::{hex, record};
-use call::Reading;
 use line_text::call::Call;
+use line_text::reply::trimmed_length;
 use line_text::{call, text};
 use numerical::Answer;
-use records::{Record, Verdict};
+use records::Record;
 
-// The line's length without a carriage return at its end.
-fn trimmed_length(s: &[u8]) -> usize
-    ensures { (result ≤ length s.now) × (take result s.now ≡ trimmed s.now) }
-{
-    let n = s.len();
-    if n == 0 {
-        return 0;
-    }
-    if s[n - 1] == b'\r' { n - 1 } else { n }
-}
-
-// A record has its own copy of the coefficients.
-fn first_sixteen(a: &[f64]) -> [f64; 16]
-    requires { 16 ≤ length a.now }
-    ensures { result ≡ take 16 a.now }
-{
-    let mut front = [0.0f64; 16];
-    let mut i = 0;
-    while i < 16 {
-        front[i] = a[i];
-        i += 1;
-    }
-    front
-}
-
-// The number of a refusal, or 0 where the answer is none.
-fn refusal(answer: Answer) -> u8
+// The number of a refusal, if the answer is one.
+fn refusal(answer: Answer) -> Option<u8>
     ensures { result ≡ refusal_of answer }
 {
     match answer {
-        Answer::ByValue { root: _, value: _ } => 0,
-        Answer::ByWidth {
-            root: _,
-            p: _,
-            q: _,
-        } => 0,
-        Answer::Refused(number) => number,
+        Answer::Refused(number) => Some(number),
+        _ => None,
     }
 }
 
@@ -56,15 +26,13 @@ fn put_content(out: &mut [u8], at: usize, content: Record) -> usize
     ensures put { Put out.old at (recorded_text content) out.new result }
     ensures upper_bound { result ≤ at + longest_reply }
 {
-    let outcome = content.outcome;
-    let answer = outcome.answer;
     let mut aside = [0u8; Record::LONGEST];
     match records::write(content, &mut aside) {
-        Verdict::Bytes(n) => {
+        Ok(n) => {
             let p = hex::put_bytes(out, at, &aside[..n]);
             text::put_byte(out, p, b'\n')
         }
-        Verdict::Refused(_) => record::put_refused(out, at, refusal(answer)),
+        Err(_) => record::put_refused(out, at, refusal(content.outcome.answer).unwrap_or(0)),
     }
 }
 
@@ -75,19 +43,16 @@ fn put_searched(out: &mut [u8], at: usize, a: &[f64], c: Call) -> usize
     ensures put { Put out.old at (recorded_text (record_of (take c.count a.now) c.method c.tolerances c.limit)) out.new result }
     ensures upper_bound { result ≤ at + longest_reply }
 {
-    let count = c.count;
-    let method = c.method;
-    let tolerances = c.tolerances;
-    let outcome = roots::search(&a[..count], method, tolerances, c.limit);
-    let coefficients = first_sixteen(a);
+    let mut coefficients = [0.0f64; 16];
+    coefficients.copy_from_slice(&a[..16]);
     let content = Record {
         kind: Record::NEWEST,
         coefficients,
-        count,
-        method,
-        tolerances,
+        count: c.count,
+        method: c.method,
+        tolerances: c.tolerances,
         limit: c.limit,
-        outcome,
+        outcome: roots::search(&a[..c.count], c.method, c.tolerances, c.limit),
     };
     put_content(out, at, content)
 }
@@ -101,8 +66,8 @@ fn put_reply(s: &[u8], out: &mut [u8], at: usize) -> usize
     let n = trimmed_length(s);
     let mut a = [0.0f64; 44];
     match call::read(&s[..n], &mut a) {
-        Reading::Call(c) => put_searched(out, at, &a, c),
-        Reading::Wrong(why) => text::put_fault(out, at, why),
+        Ok(c) => put_searched(out, at, &a, c),
+        Err(why) => text::put_fault(out, at, why),
     }
 }
 

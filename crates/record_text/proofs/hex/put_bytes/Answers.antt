@@ -1,12 +1,8 @@
 use borrow.Author.Rules.{rules}
-use Rattle.record_text.specs.RecordTextLaws.{hex_start, hex_on, hex_done}
+use native.Mathlib.Omega.{arith}
+use Rattle.line_text.specs.TextLaws.{each_on}
+use Rattle.record_text.specs.RecordTexts.{pair}
 use Rattle.record_text.proofs.hex.put_bytes.Goals as goal
 
-pub loop-i-init : goal.loop-i-init
-loop-i-init c = search hex_start
-
-pub loop-i-preserved : goal.loop-i-preserved
-loop-i-preserved c = search hex_on
-
-pub returns : goal.returns
-returns c = record { put = search hex_done; value = search rules }
+pub loop-b-preserved : goal.loop-b-preserved
+loop-b-preserved c = (each_on pair c.args.s.now c.loop-b.b-index c.loop-b.invariant.0 0 (search rules) c.put_pair-p.ensures.put, omega arith)
