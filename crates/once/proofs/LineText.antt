@@ -1,6 +1,6 @@
 -- Each public function of `line_text`: its contract allows one result, and one last value of each buffer.
-use Rattle.std.specs.Prelude.{ℕ, List, Float}
-use Rattle.std.proofs.Common.{sym, ◌∙◌}
+use Rattle.std.specs.Prelude.{ℕ, List, length, Float}
+use Rattle.std.proofs.Common.{ap, sym, ◌∙◌, length-take-le}
 use Rattle.line_text.proofs.call.read_doubles.Reads as read-doubles-reads
 use Rattle.line_text.proofs.call.read.Reads as read-reads
 use Rattle.line_text.proofs.digits.digit.Reads as digit-reads
@@ -9,11 +9,14 @@ use Rattle.line_text.proofs.digits.decimal.Reads as decimal-reads
 use Rattle.line_text.proofs.digits.word.Reads as word-reads
 use Rattle.line_text.proofs.fields.next.Reads as next-reads
 use Rattle.line_text.proofs.input.fed.Reads as fed-reads
+use Rattle.line_text.proofs.reply.trimmed_length.Reads as trimmed-length-reads
 use Rattle.line_text.proofs.reply.put_line.Reads as put-line-reads
 use Rattle.line_text.proofs.text.put.Reads as put_reads
 use Rattle.line_text.proofs.text.put_byte.Reads as put-byte-reads
 use Rattle.line_text.proofs.text.put_decimal.Reads as put-decimal-reads
+use Rattle.line_text.proofs.text.put_hex.Reads as put-hex-reads
 use Rattle.line_text.proofs.text.put_double.Reads as put-double-reads
+use Rattle.line_text.proofs.text.put_doubles.Reads as put-doubles-reads
 use Rattle.line_text.proofs.text.put_outcome.Reads as put-outcome-reads
 use Rattle.line_text.proofs.text.put_fault.Reads as put-fault-reads
 use Rattle.line_text.specs.CallLaws.{ends_fixed}
@@ -27,7 +30,7 @@ use Rattle.once.proofs.Fixed.{fixed}
 -- ---- call: what was read, then the array `a`
 
 pub read_doubles_once : One read-doubles-reads.Learnt
-read_doubles_once k a x y e f p q = ends_fixed _ _ _ x y p.ends q.ends
+read_doubles_once k a x y e f p q = ends_fixed a.0.now a.1.0 _ x y p.ends q.ends
 
 pub read_doubles_array : Last {B = List Float} read-doubles-reads.Learnt (λ k e. e.1.1.1.0.now)
 read_doubles_array k a x y e f p q = p.array ∙ sym q.array
@@ -68,7 +71,10 @@ fed_line k a x y e f p q = buffer_fixed (p.1.0 ∙ sym q.1.0) p.0 q.0
 pub fed_out : Last {B = List ℕ} fed-reads.Learnt (λ k e. e.1.1.1.0.now)
 fed_out k a x y e f p q = replies_fixed (p.1.0 ∙ sym q.1.0) p.0 q.0
 
--- ---- reply: where it ends, then the buffer `out`
+-- ---- reply: the length, and where a reply ends, then the buffer `out`
+
+pub trimmed_length_once : One trimmed-length-reads.Learnt
+trimmed_length_once k a x y e f p q = sym (length-take-le x a.0.now p.0) ∙ ap length (p.1 ∙ sym q.1) ∙ length-take-le y a.0.now q.0
 
 pub put_line_once : One put-line-reads.Learnt
 put_line_once k a x y e f p q = p.0.ends ∙ sym q.0.ends
@@ -96,11 +102,23 @@ put_decimal_once k a x y e f p q = p.0.ends ∙ sym q.0.ends
 pub put_decimal_out : Last {B = List ℕ} put-decimal-reads.Learnt (λ k e. e.0.now)
 put_decimal_out k a x y e f p q = put_fixed p.0 q.0
 
+pub put_hex_once : One put-hex-reads.Learnt
+put_hex_once k a x y e f p q = p.0.ends ∙ sym q.0.ends
+
+pub put_hex_out : Last {B = List ℕ} put-hex-reads.Learnt (λ k e. e.0.now)
+put_hex_out k a x y e f p q = put_fixed p.0 q.0
+
 pub put_double_once : One put-double-reads.Learnt
 put_double_once k a x y e f p q = p.0.ends ∙ sym q.0.ends
 
 pub put_double_out : Last {B = List ℕ} put-double-reads.Learnt (λ k e. e.0.now)
 put_double_out k a x y e f p q = put_fixed p.0 q.0
+
+pub put_doubles_once : One put-doubles-reads.Learnt
+put_doubles_once k a x y e f p q = p.0.ends ∙ sym q.0.ends
+
+pub put_doubles_out : Last {B = List ℕ} put-doubles-reads.Learnt (λ k e. e.0.now)
+put_doubles_out k a x y e f p q = put_fixed p.0 q.0
 
 pub put_outcome_once : One put-outcome-reads.Learnt
 put_outcome_once k a x y e f p q = p.0.ends ∙ sym q.0.ends
