@@ -12,7 +12,7 @@ use numerical::{Answer, Outcome};
 use records::{Record, Refusal};
 
 // The fields of an answer, in record order: its kind, its numbers, the tallies and the mark.
-#[derive(Clone, Copy)]
+#[derive(Clone, Copy, Debug, PartialEq, Eq)]
 pub enum Field {
     Kind = 1,
     First,
@@ -45,7 +45,7 @@ impl Field {
 }
 
 // What the answer on record and the present one hold of the first field that differs: a double by its bits.
-#[derive(Clone, Copy)]
+#[derive(Clone, Copy, Debug, PartialEq, Eq)]
 pub struct Difference {
     pub field: Field,
     pub recorded: u64,
@@ -53,7 +53,7 @@ pub struct Difference {
 }
 
 // How many records agree before the first that does not, and at which byte that one begins.
-#[derive(Clone, Copy)]
+#[derive(Clone, Copy, Debug, PartialEq, Eq)]
 pub enum Playback {
     Agree {
         records: usize,
@@ -139,7 +139,8 @@ fn compared(content: Record) -> Option<Difference>
     first_difference(fields_of(content.outcome), fields_of(answer_now(content)))
 }
 
-// Plays the records back, one after the other from the start, up to the first that does not agree.
+// Plays the records back, one after the other from the start, up to the first that does not agree. The index goes on by each
+// record's length, and the verdict tells it.
 pub fn play_back(bytes: &[u8]) -> Playback
     ensures { result ≡ played_back bytes.now }
 {

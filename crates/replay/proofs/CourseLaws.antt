@@ -12,10 +12,10 @@ use Rattle.playback.specs.declared.Difference.{Difference}
 use Rattle.playback.specs.declared.Field.{Field}
 use Rattle.playback.specs.declared.Playback.{Playback}
 use Rattle.playback.specs.declared.Playback.TheVariants.{Agree, Differs, Refused}
-use Rattle.line_text.specs.Texts.{Put, bytes, decimal_field}
+use Rattle.line_text.specs.Texts.{Put, bytes, decimal_field, hex_field}
 use Rattle.line_text.specs.TextLaws.{put_both}
 use Rattle.replay.specs.Courses.{Within, course_of, Goes, Follows}
-use Rattle.replay.specs.VerdictTexts.{hex_field, is_number, value_text, place_text, difference_text, verdict_text}
+use Rattle.replay.specs.VerdictTexts.{is_number, value_text, place_text, difference_text, verdict_text}
 use Rattle.replay.specs.declared.Course.{Course}
 use Rattle.replay.specs.declared.Course.TheVariants.{Ended, Open}
 use Rattle.replay.specs.declared.Reached.{Reached}

@@ -1,3 +1,2 @@
 -- The laws about what specs/ defines, and the lemmas of the proofs.
 pub mod CourseLaws
-pub mod HexLaws

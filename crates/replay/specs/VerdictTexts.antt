@@ -1,6 +1,6 @@
 -- A verdict as a line. Definitions only.
-use Rattle.std.specs.Prelude.{ℕ, Bool, true, false, cond, List, [], ◌∷◌, ◌++◌}
-use Rattle.line_text.specs.Texts.{bytes, decimal_field, hex_text}
+use Rattle.std.specs.Prelude.{ℕ, Bool, true, false, cond, List, ◌++◌}
+use Rattle.line_text.specs.Texts.{bytes, decimal_field, hex_field}
 use Rattle.records.specs.Records.{refusal_number}
 use Rattle.playback.specs.Playback.{field_number}
 use Rattle.playback.specs.declared.Difference.{Difference}
@@ -23,10 +23,6 @@ is_number Steps = false
 is_number Values = false
 is_number Derivatives = false
 is_number Mark = false
-
--- 16 digits and a byte after them
-abbrev pub hex_field : ℕ → ℕ → List ℕ
-hex_field n after = hex_text n ++ (after ∷ [])
 
 -- a double by the 16 hexadecimal digits of its bits, another number in decimal digits
 unfoldable pub value_text : Field → ℕ → ℕ → List ℕ

@@ -4,11 +4,11 @@
 
 #![tactic(auto)]
 
-ghost use Rattle.std.specs.Prelude.{◌+◌, ◌<◌, ◌≤◌, length, take, false, ◌≡◌, IfSome};
+ghost use Rattle.std.specs.Prelude.{◌+◌, ◌^◌, ◌<◌, ◌≤◌, length, take, false, ◌≡◌, IfSome};
 ghost use Rattle.line_text.specs.Texts.{Put};
 ghost use Rattle.records.specs.Records.{longest_record};
-ghost use Rattle.replay.specs.Courses.{Bounded, Follows, Goes, Room, Within, block_length, course_of, may_go_on, most_bytes_in_all};
-ghost use Rattle.replay.specs.VerdictTexts.{difference_text, hex_field, is_number, longest_line, place_text, value_text, verdict_text};
+ghost use Rattle.replay.specs.Courses.{Bounded, Follows, Goes, Room, Within, block_length, course_of, may_go_on, most_bytes_in_all, reached_at};
+ghost use Rattle.replay.specs.VerdictTexts.{difference_text, is_number, longest_line, place_text, value_text, verdict_text};
 
 use line_text::text;
 use playback::{Difference, Field, Playback};
@@ -20,6 +20,19 @@ use std::io::{Read, Stdin, Stdout, Write};
 struct Reached {
     records: usize,
     offset: usize,
+}
+
+impl Reached {
+    // So many records and bytes further.
+    fn after(self, records: usize, offset: usize) -> Reached
+        requires { (self.records + records < 2 ^ 64) × (self.offset + offset < 2 ^ 64) }
+        ensures { result ≡ reached_at (self.records + records) (self.offset + offset) }
+    {
+        Reached {
+            records: self.records + records,
+            offset: self.offset + offset,
+        }
+    }
 }
 
 // Where a block leaves the playback: at the verdict, or open, with the bytes from an index on to be played with the next block.
@@ -45,18 +58,6 @@ fn is_number(field: Field) -> bool
     matches!(field, Field::First | Field::Second | Field::Third)
 }
 
-// A number of 64 bits in 16 hexadecimal digits, and a byte after it.
-fn put_hex(out: &mut [u8], at: usize, n: u64, after: u8) -> usize
-    requires { at + 17 ≤ length out.old }
-    ensures put { Put out.old at (hex_field n after) out.new result }
-    ensures value { result ≡ at + 17 }
-{
-    let mut digits = [0u8; 16];
-    let k = io::hex(n, 16, &mut digits);
-    let p = text::put(out, at, &digits[..k]);
-    text::put_byte(out, p, after)
-}
-
 // What a field holds, and a byte after it.
 fn put_value(out: &mut [u8], at: usize, field: Field, n: u64, after: u8) -> usize
     requires { at + 21 ≤ length out.old }
@@ -64,7 +65,7 @@ fn put_value(out: &mut [u8], at: usize, field: Field, n: u64, after: u8) -> usiz
     ensures upper_bound { result ≤ at + 21 }
 {
     if is_number(field) {
-        put_hex(out, at, n, after)
+        text::put_hex(out, at, n, after)
     } else {
         text::put_decimal(out, at, n, after)
     }
@@ -132,22 +133,6 @@ fn may_go_on(is_last: bool, left: usize) -> bool
     !is_last && left < Record::LONGEST
 }
 
-// A block whose records all agree: the input goes on behind it, or ends there.
-fn after_agreeing(records: usize, long: usize, is_last: bool, reached: Reached) -> Course
-    requires { (records ≤ long) × Room long reached }
-    ensures { result ≡ course_of (Playback.Agree records) long is_last reached }
-{
-    let records = reached.records + records;
-    if is_last {
-        return Course::Ended(Playback::Agree { records });
-    }
-    let offset = reached.offset + long;
-    Course::Open {
-        at: long,
-        reached: Reached { records, offset },
-    }
-}
-
 // A block with a record that was refused at an index: it may be cut off there, or is none.
 fn after_refusal(
     refusal: Refusal,
@@ -160,14 +145,11 @@ fn after_refusal(
     requires { (records ≤ long) × (at < long) × Room long reached }
     ensures { result ≡ course_of (Playback.Refused refusal records at) long is_last reached }
 {
-    let records = reached.records + records;
-    let offset = reached.offset + at;
+    let reached = reached.after(records, at);
     if may_go_on(is_last, long - at) {
-        return Course::Open {
-            at,
-            reached: Reached { records, offset },
-        };
+        return Course::Open { at, reached };
     }
+    let Reached { records, offset } = reached;
     Course::Ended(Playback::Refused {
         refusal,
         records,
@@ -175,22 +157,34 @@ fn after_refusal(
     })
 }
 
-// What a block's verdict says of the input, behind what was reached before it.
+// What a block's verdict says of the input, behind what was reached before it. Where all its records agree, the input goes on behind
+// it or ends there.
 fn course_of(verdict: Playback, long: usize, is_last: bool, reached: Reached) -> Course
     requires { Within long verdict × Room long reached }
     ensures { result ≡ course_of verdict long is_last reached }
 {
     match verdict {
-        Playback::Agree { records } => after_agreeing(records, long, is_last, reached),
+        Playback::Agree { records } => {
+            let reached = reached.after(records, long);
+            if is_last {
+                let records = reached.records;
+                Course::Ended(Playback::Agree { records })
+            } else {
+                Course::Open { at: long, reached }
+            }
+        }
         Playback::Differs {
             records,
             offset,
             difference,
-        } => Course::Ended(Playback::Differs {
-            records: reached.records + records,
-            offset: reached.offset + offset,
-            difference,
-        }),
+        } => {
+            let Reached { records, offset } = reached.after(records, offset);
+            Course::Ended(Playback::Differs {
+                records,
+                offset,
+                difference,
+            })
+        }
         Playback::Refused {
             refusal,
             records,
