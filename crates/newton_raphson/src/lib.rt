@@ -16,6 +16,7 @@ use simple_convergency::StopRule;
 use std::ops::ControlFlow;
 
 // Where the search stands, and whether the step that led there was the nudge: first, where an answer has its kind, so that x lies where a root does.
+// A flag beside x, and no Option: x is the point to go on from either way.
 #[derive(Clone, Copy)]
 pub struct Spot {
     pub nudged: bool,

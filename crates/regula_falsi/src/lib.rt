@@ -28,6 +28,7 @@ pub enum Edge {
     EdgeX2,
 }
 
+// The two ends of the pair, and which of them the step before replaced.
 #[derive(Clone, Copy)]
 pub struct Illinois {
     pub left: End,
@@ -114,12 +115,13 @@ fn candidate(s: Illinois) -> f64
     (s.left.at.x * s.right.weight - s.right.at.x * s.left.weight) / (s.right.weight - s.left.weight)
 }
 
+// The same end at half its weight.
 fn halve(e: End) -> End
     ensures { result ≡ halved e }
 {
     End {
-        at: e.at,
         weight: e.weight / 2.0,
+        ..e
     }
 }
 
@@ -141,7 +143,7 @@ fn left_replaced(s: Illinois, p: Sample) -> Illinois
     }
 }
 
-// The sample takes the right end's place.
+// The sample takes the right end's place. Each side has its own function: one with a side to choose would say no less.
 fn right_replaced(s: Illinois, p: Sample) -> Illinois
     ensures { result ≡ right_replaced s p }
 {
