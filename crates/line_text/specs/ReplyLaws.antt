@@ -3,10 +3,10 @@ use Rattle.std.specs.Prelude.{ℕ, suc, ◌+◌, ◌-◌, ◌≤◌, Bool, true,
 use lib.Pointwise.{pointwise}
 use Rattle.std.proofs.Math.Bool.{and-true}
 use Rattle.std.proofs.Math.Seq.{take-length}
-use Rattle.std.proofs.Common.{Bor, arith, sym, ap, ◌∙◌, length-take-le, drop-cons, drop_of_length-le}
+use Rattle.std.proofs.Common.{Bor, arith, length-take-le, drop-cons, drop_of_length-le}
 use Rattle.numerical.specs.declared.Outcome.{Outcome}
 use Rattle.roots.specs.Calls.{answer}
-use Rattle.line_text.specs.Calls.{Asked, asked_of, asked_by, ReadAs}
+use Rattle.line_text.specs.Calls.{asked_of, asked_by, ReadAs}
 use Rattle.line_text.specs.Texts.{text_of, fault_text, replied, trimmed, reply_to, Put}
 use Rattle.line_text.specs.declared.call.Call.{Call}
 use Rattle.line_text.specs.declared.call.Fault.{Fault}
@@ -39,22 +39,6 @@ trim_part s = go (eqb (get_or s (length s - 1) 0) 13)
 
 pub trim_count : (s : Bor (List ℕ)) (o : Option (Bor (List ℕ))) {r : Bor (List ℕ)} → MatchOption o (pointwise eqb (drop (length s.now - 1) s.now) (13 ∷ []) ≡ false) (λ x. (pointwise eqb (drop (length s.now - 1) s.now) (13 ∷ []) ≡ true) × (x.now ≡ take (length s.now - 1) s.now) × (length x.now + 1 ≡ length s.now)) → r ≡ unwrap_or o s → (length r.now ≤ length s.now) × (take (length r.now) s.now ≡ trimmed s.now)
 trim_count s o h e = rw (trim_is s o h e) (trim_part s.now)
-
--- one count
-pub trim_fixed : (s : List ℕ) {n m : ℕ} → n ≤ length s → m ≤ length s → take n s ≡ trimmed s → take m s ≡ trimmed s → n ≡ m
-trim_fixed s {n} {m} h k e f = sym (length-take-le n s h) ∙ ap length (e ∙ sym f) ∙ length-take-le m s k
-
--- ---- the coefficients
-
-pub count_of_part : (n : ℕ) (s : List ℕ) → n ≤ length s → n ≡ length (take n s)
-count_of_part n s h = sym (length-take-le n s h)
-
-module _ (asked : Asked) {filled : List Float} (a : List Float) {r : Result Call Fault} {c : Call} (k : ReadAs asked filled a r) (e : r ≡ Ok c) where
-  called : ReadAs asked filled a (Ok c)
-  called = rw e at k
-
-  pub count_within : c.count ≤ length a
-  count_within = called.within
 
 -- ---- what was read, and its reply
 

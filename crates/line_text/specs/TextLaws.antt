@@ -112,12 +112,6 @@ module _ (n k : ℕ) (h : n < 2 ^ 64) (f : IsDigitCount 16 16 n k) (d : List ℕ
   hex_places : k ≡ 16
   hex_places = let p = places 16 16 16 n k (omega arith) (omega arith) (omega arith) h f in let q = f.0 in omega arith
 
-  pub hex_room : (at len : ℕ) → at + 17 ≤ len → at + length (take k d) ≤ len
-  hex_room at len r = let p = hex_places in omega arith
-
-  pub hex_room_after : (at : ℕ) (a b : List ℕ) {p : ℕ} → at + 17 ≤ length a → Put a at (take k d) b p → length b ≡ length a → p < length b
-  hex_room_after at a b r x l = let q = hex_places in let e = x.ends in omega arith
-
   pub hex_put : (a : List ℕ) (at after : ℕ) {b : List ℕ} {e : List ℕ} {p r : ℕ} → take k d ≡ last_digits 16 k n → Put a at (take k d) b p → Put b p (after ∷ []) e r → Put a at (hex_field n after) e r
   unfolding hex_text
   hex_put a at after {b} {e} {p} {r} t x y = put_both text y

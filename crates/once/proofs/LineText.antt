@@ -1,6 +1,6 @@
 -- Each public function of `line_text`: its contract allows one result, and one last value of each buffer.
-use Rattle.std.specs.Prelude.{ℕ, List, Float}
-use Rattle.std.proofs.Common.{sym, ◌∙◌}
+use Rattle.std.specs.Prelude.{ℕ, List, length, Float}
+use Rattle.std.proofs.Common.{ap, sym, ◌∙◌, length-take-le}
 use Rattle.line_text.proofs.call.read_doubles.Reads as read-doubles-reads
 use Rattle.line_text.proofs.call.read.Reads as read-reads
 use Rattle.line_text.proofs.digits.digit.Reads as digit-reads
@@ -23,7 +23,6 @@ use Rattle.line_text.specs.CallLaws.{ends_fixed}
 use Rattle.line_text.specs.FieldLaws.{field_fixed}
 use Rattle.line_text.specs.InputLaws.{state_fixed, buffer_fixed, replies_fixed}
 use Rattle.line_text.specs.ReadingLaws.{reading_fixed}
-use Rattle.line_text.specs.ReplyLaws.{trim_fixed}
 use Rattle.line_text.specs.TextLaws.{put_fixed}
 use Rattle.once.specs.One.{One, Last}
 use Rattle.once.proofs.Fixed.{fixed}
@@ -72,10 +71,10 @@ fed_line k a x y e f p q = buffer_fixed (p.1.0 ∙ sym q.1.0) p.0 q.0
 pub fed_out : Last {B = List ℕ} fed-reads.Learnt (λ k e. e.1.1.1.0.now)
 fed_out k a x y e f p q = replies_fixed (p.1.0 ∙ sym q.1.0) p.0 q.0
 
--- ---- reply: a line's length, and where a reply ends, then the buffer `out`
+-- ---- reply: the length, and where a reply ends, then the buffer `out`
 
 pub trimmed_length_once : One trimmed-length-reads.Learnt
-trimmed_length_once k a x y e f p q = trim_fixed _ p.0 q.0 p.1 q.1
+trimmed_length_once k a x y e f p q = sym (length-take-le x a.0.now p.0) ∙ ap length (p.1 ∙ sym q.1) ∙ length-take-le y a.0.now q.0
 
 pub put_line_once : One put-line-reads.Learnt
 put_line_once k a x y e f p q = p.0.ends ∙ sym q.0.ends
