@@ -7,3 +7,4 @@ pub mod BrentTraces
 pub mod BrentTraced
 pub mod BrentSamples
 pub mod BrentRepeats
+pub mod BrentRule

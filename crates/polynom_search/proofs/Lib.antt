@@ -2,3 +2,4 @@
 pub mod PolynomSearchLaws
 pub mod PolynomSearchKeeps
 pub mod PolynomSearchTraces
+pub mod TurnLaws

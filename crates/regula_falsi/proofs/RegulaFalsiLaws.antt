@@ -9,7 +9,10 @@ use Rattle.simple_convergency.specs.declared.StopRule.{StopRule}
 use Rattle.searching.specs.Programs.{rising}
 use Rattle.searching.specs.Bounds.{Within, More}
 use Rattle.searching.proofs.BoundLaws.{within_done, within_test, within_stops, within_ruled, within_pulled, within_value, within_offered, within_bracketed, within_narrows, within_less, within_searches, answer_within}
-use Rattle.regula_falsi.specs.RegulaFalsi.{second_at, first_at, ordered, opening, pair_of, arrived, landed, pulled_in, turn_from, illinois_program, regula_falsi, elsewhere}
+use Rattle.regula_falsi.specs.declared.Edge.{Edge}
+use Rattle.regula_falsi.specs.declared.Edge.TheVariants.{EdgeX1, NoEdge, EdgeX2}
+use Rattle.regula_falsi.specs.declared.End.{End}
+use Rattle.regula_falsi.specs.RegulaFalsi.{right_after, second_at, first_at, ordered, opening, pair_of, arrived, landed, pulled_in, turn_from, illinois_program, regula_falsi, elsewhere}
 use Rattle.regula_falsi.specs.declared.Illinois.{Illinois}
 
 within_ordered : (stop : StopRule) (x1 x2 : Float) → Within 2 0 0 (ordered stop x1 x2)
@@ -48,6 +51,12 @@ module _ (cs : List Float) (stop : StopRule) (a b : Float) where
   -- "Illinois, secant and Brent take no derivatives"
   pub regula_falsi_derivatives : (regula_falsi cs stop a b).progress.tally.derivatives.0 ≤ 0
   regula_falsi_derivatives = let h = within_search.derivatives in omega (arith, mul-zero (turns_of stop))
+
+-- the right end stays as it is where the step before replaced another than the left
+pub right_stays : (edge : Edge) (e : End) → (edge ≡ EdgeX1 → ⊥) → e ≡ right_after edge e
+right_stays EdgeX1 e n = absurd (n refl)
+right_stays NoEdge e n = refl
+right_stays EdgeX2 e n = refl
 
 -- the three tests together, as the code has them
 pub elsewhere_tests : (same first second : Bool) → ((same && not first) || (not same && (first || not second))) ≡ elsewhere same first second
