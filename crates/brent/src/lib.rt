@@ -47,7 +47,6 @@ fn arrange(p: Sample, q: Sample) -> Arranged
 // ---- the opening
 
 // Refusal 6, or the first state: c and d are a before any step.
-#[tactic(auto, using(searching::proofs::StepLaws::steps), unfolding(crate::specs::Brent::opened, crate::specs::Brent::start_of))]
 fn opened(pair: Arranged, progress: Progress) -> Turn<Brent>
     ensures { (stop : StopRule) (cs : List Float) → viewed result ≡ play tallied (oracle cs) (opened stop pair) progress }
 {
