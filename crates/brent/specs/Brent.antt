@@ -2,6 +2,7 @@
 use Rattle.std.specs.Prelude.{Bool, true, false, cond, Float, List}
 use Rattle.std.specs.Float.{binary64}
 use Rattle.std.specs.Float.Ieee.{of_bits, add, sub, mul, div, lt, le, ne}
+use Rattle.numerical.specs.Chords.{chord_of}
 use Rattle.numerical.specs.declared.Answer.{Answer}
 use Rattle.numerical.specs.declared.Answer.TheVariants.{ByWidth}
 use Rattle.numerical.specs.declared.Interval.{Interval}
@@ -68,7 +69,7 @@ inverse_quadratic s =
 
 -- b - yb * (b - a) / (yb - ya)
 unfoldable pub chord : Brent → Float
-chord s = sub binary64 s.b.x (div binary64 (mul binary64 s.b.y (sub binary64 s.b.x s.a.x)) (sub binary64 s.b.y s.a.y))
+chord s = chord_of s.a s.b
 
 -- (ya != yc) && (yb != yc)
 unfoldable pub three_values : Brent → Bool

@@ -89,6 +89,7 @@ fn first_at(a: &[f64], to: f64, p: Sample, progress: Progress) -> Turn<Brent>
 }
 
 // The starts are evaluated in the order given.
+// No opening in common with the other methods: each evaluation is taken apart where it is made, as docs/PROMISES.md says.
 #[tactic(auto, using(searching::proofs::StepLaws::steps), unfolding(crate::specs::Brent::opening))]
 fn opening(a: &[f64], from: f64, to: f64, progress: Progress) -> Turn<Brent>
     requires { Room 2 progress }
@@ -124,7 +125,7 @@ fn inverse_quadratic(s: Brent) -> f64
 fn chord(s: Brent) -> f64
     ensures { result ≡ chord s }
 {
-    s.b.x - s.b.y * (s.b.x - s.a.x) / (s.b.y - s.a.y)
+    s.a.chord_to(s.b)
 }
 
 // Whether c has another value than a and than b.

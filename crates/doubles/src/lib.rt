@@ -15,7 +15,7 @@ pub fn from_pattern(n: u64) -> f64
     if n % 0x8000_0000_0000_0000 <= 0x7ff0_0000_0000_0000 {
         f64::from_bits(n)
     } else {
-        0.0 / 0.0
+        f64::NAN
     }
 }
 
@@ -30,7 +30,7 @@ pub fn pattern(x: f64) -> u64
 }
 
 // The largest finite double.
-const LARGEST: f64 = 1.7976931348623157e308;
+const LARGEST: f64 = f64::MAX;
 
 // Whether x is finite, by "comparisons against the largest finite double". With a NaN both are false.
 pub fn is_finite(x: f64) -> bool
@@ -39,7 +39,7 @@ pub fn is_finite(x: f64) -> bool
     (-LARGEST <= x) & (x <= LARGEST)
 }
 
-// The size of x.
+// The size of x. This, `clamp`, `lower` and `higher` are not std's: their definitions answer otherwise on zeros and NaN.
 pub fn abs(x: f64) -> f64
     ensures { result ≡ absolute x }
 {
@@ -89,10 +89,10 @@ pub fn of_order(k: i64) -> f64
     ensures { result ≡ of_order k }
 {
     if k <= -0x7ff0_0000_0000_0000 {
-        return 0.0 / 0.0;
+        return f64::NAN;
     }
     if k >= 0x7ff0_0000_0000_0000 {
-        return 0.0 / 0.0;
+        return f64::NAN;
     }
     if k < 0 {
         let size = (0 - k) as u64;

@@ -111,6 +111,7 @@ fn first_at(stop: StopRule, v: ValueAndDerivative, progress: Progress) -> Turn<S
 }
 
 // The first pass evaluates the start.
+// No opening in common with the other methods: each evaluation is taken apart where it is made, as docs/PROMISES.md says.
 #[tactic(auto, using(searching::proofs::StepLaws::steps), unfolding(crate::specs::NewtonRaphson::opening))]
 fn opening(a: &[f64], stop: StopRule, start: f64, progress: Progress) -> Turn<Spot>
     requires { Room 2 progress }

@@ -5,6 +5,7 @@
 ghost use Rattle.std.specs.Prelude.{◌≡◌};
 ghost use Rattle.numerical.specs.Tallies.{fresh, valued_of, sloped_of, stepped_of, ruled_of, Room};
 ghost use Rattle.numerical.specs.Answers.{counts_of, kind_of, numbers_of, padded, refused_at_once};
+ghost use Rattle.numerical.specs.Chords.{chord_of};
 ghost use Rattle.numerical.specs.Middle.{at_least, at_most, crosses, middle_of};
 
 // A point and the computed value there.
@@ -113,6 +114,7 @@ impl Progress {
     }
 
     // An added rule was applied, and departed or not: the mark is the first that departed.
+    // A plain number, as the mark is: records take any from outside.
     pub fn ruled(self, rule: u8, departed: bool) -> Progress
         ensures { result ≡ ruled_of rule departed self }
     {
@@ -128,7 +130,8 @@ impl Progress {
         ensures { result ≡ counts_of self }
     {
         let t = self.tally;
-        [t.steps.0, t.values.0, t.derivatives.0, self.mark as u64]
+        let mark = u64::from(self.mark);
+        [t.steps.0, t.values.0, t.derivatives.0, mark]
     }
 }
 
@@ -140,7 +143,7 @@ impl Answer {
         match self {
             Answer::ByValue { .. } => 0,
             Answer::ByWidth { .. } => 1,
-            Answer::Refused(number) => 10 + number as u64,
+            Answer::Refused(number) => 10 + u64::from(number),
         }
     }
 
@@ -157,7 +160,7 @@ impl Answer {
 }
 
 impl Outcome {
-    // A refusal before any evaluation carries all zero.
+    // A refusal before any evaluation carries all zero. A plain number, as in Refused: C is told 0 where it names no method.
     pub fn refused_at_once(number: u8) -> Outcome
         ensures { result ≡ refused_at_once number }
     {
@@ -165,6 +168,16 @@ impl Outcome {
             answer: Answer::Refused(number),
             progress: Progress::fresh(),
         }
+    }
+}
+
+impl Sample {
+    // Where the line from this sample to another crosses zero, by the other's own point: Brent's method and the secant method
+    // both go on from there.
+    pub fn chord_to(self, other: Sample) -> f64
+        ensures { result ≡ chord_of self other }
+    {
+        other.x - other.y * (other.x - self.x) / (other.y - self.y)
     }
 }
 

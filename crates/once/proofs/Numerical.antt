@@ -8,6 +8,7 @@ use Rattle.numerical.proofs.Progress.counts.Reads as counts-reads
 use Rattle.numerical.proofs.Answer.kind.Reads as kind-reads
 use Rattle.numerical.proofs.Answer.numbers.Reads as numbers-reads
 use Rattle.numerical.proofs.Outcome.refused_at_once.Reads as refused-at-once-reads
+use Rattle.numerical.proofs.Sample.chord_to.Reads as chord-to-reads
 use Rattle.numerical.proofs.Interval.crosses.Reads as crosses-reads
 use Rattle.numerical.proofs.Interval.middle.Reads as middle-reads
 use Rattle.once.specs.One.{One}
@@ -39,6 +40,9 @@ numbers_once = fixed _ _
 
 pub refused_at_once_once : One refused-at-once-reads.Learnt
 refused_at_once_once = fixed _ _
+
+pub chord_to_once : One chord-to-reads.Learnt
+chord_to_once = fixed _ _
 
 pub crosses_once : One crosses-reads.Learnt
 crosses_once = fixed _ _

@@ -44,6 +44,7 @@ fn first_at(a: &[f64], end: f64, p: Sample, progress: Progress) -> Turn<Interval
 }
 
 // The first end is evaluated, then the second.
+// No opening in common with the other methods: each evaluation is taken apart where it is made, as docs/PROMISES.md says.
 #[tactic(auto, using(searching::proofs::StepLaws::steps), unfolding(crate::specs::PolynomSearch::ordered))]
 fn ordered(a: &[f64], begin: f64, end: f64, progress: Progress) -> Turn<Interval>
     requires { Room 2 progress }

@@ -84,6 +84,7 @@ fn first_at(a: &[f64], stop: StopRule, x2: f64, p: Sample, progress: Progress) -
 }
 
 // The opening from starts that are in order: the first is evaluated.
+// No opening in common with the other methods: each evaluation is taken apart where it is made, as docs/PROMISES.md says.
 #[tactic(auto, using(searching::proofs::StepLaws::steps), unfolding(crate::specs::RegulaFalsi::ordered))]
 fn ordered(a: &[f64], stop: StopRule, x1: f64, x2: f64, progress: Progress) -> Turn<Illinois>
     requires { Room 2 progress }

@@ -44,7 +44,7 @@ impl Method {
         }
     }
 
-    // How many starts the method of a number has.
+    // How many starts the method of a number has. Of a number, since records and lines read the starts before they have a method.
     pub fn start_count(number: u8) -> usize
         ensures { result ≡ start_count number }
     {
@@ -188,6 +188,7 @@ pub fn search_plain(a: &[f64], method: Method, eps: f64) -> Outcome
     search_simple(a, method, eps, StopRule::PLAIN_LIMIT)
 }
 
+// By the names that the Rust has and README gives: each is `search_simple` with its method.
 pub fn find_root_brent(from: f64, to: f64, a: &[f64], eps: f64, limit: u64) -> Outcome
     ensures { result ≡ answer a.now (Method.Brent from to) (one_eps eps) limit }
 {

@@ -122,7 +122,7 @@ fn refusal_of(written: Result<usize, Refusal>) -> u64
 {
     match written {
         Ok(_) => 0,
-        Err(refusal) => refusal.number() as u64,
+        Err(refusal) => u64::from(refusal.number()),
     }
 }
 
@@ -208,7 +208,7 @@ fn words_of(reading: Reading) -> [u64; 6]
     let content = reading.content;
     [
         reading.length as u64,
-        content.method.number() as u64,
+        u64::from(content.method.number()),
         content.count as u64,
         content.limit,
         content.outcome.answer.kind(),
@@ -249,7 +249,7 @@ pub fn roots_record_read(
             *numbers = [0.0; 3];
             *tallies = [0; 4];
             *words = [0; 6];
-            refusal.number() as u64
+            u64::from(refusal.number())
         }
     }
 }

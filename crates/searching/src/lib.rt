@@ -137,6 +137,7 @@ pub struct Placed {
 }
 
 // What a test of signs decided, and what the run has done after it.
+// No Option: what the run has done is told under both decisions.
 #[derive(Clone, Copy)]
 pub struct Decided {
     pub decision: bool,

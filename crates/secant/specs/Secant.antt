@@ -1,7 +1,8 @@
 -- The secant method, step by step as secant.rs has it. Definitions only.
 use Rattle.std.specs.Prelude.{Float, List}
 use Rattle.std.specs.Float.{binary64}
-use Rattle.std.specs.Float.Ieee.{sub, mul, div}
+use Rattle.std.specs.Float.Ieee.{sub}
+use Rattle.numerical.specs.Chords.{chord_of}
 use Rattle.numerical.specs.declared.Answer.{Answer}
 use Rattle.numerical.specs.declared.Answer.TheVariants.{ByWidth}
 use Rattle.numerical.specs.declared.Outcome.{Outcome}
@@ -32,9 +33,7 @@ opening stop first second = value_at first (first_at stop second)
 
 -- x2 - y2 * (x2 - x1) / (y2 - y1)
 unfoldable pub candidate_of : Secant → Float
-candidate_of s =
-    sub binary64 s.second.x
-    (div binary64 (mul binary64 s.second.y (sub binary64 s.second.x s.first.x)) (sub binary64 s.second.y s.first.y))
+candidate_of s = chord_of s.first s.second
 
 -- the candidate was evaluated: found, or the two last points go on
 unfoldable pub arrived : StopRule → Secant → Sample → Prog (Turned Secant)

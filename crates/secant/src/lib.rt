@@ -50,6 +50,7 @@ fn first_at(a: &[f64], stop: StopRule, second: f64, p: Sample, progress: Progres
 }
 
 // The first start is evaluated.
+// No opening in common with the other methods: each evaluation is taken apart where it is made, as docs/PROMISES.md says.
 #[tactic(auto, using(searching::proofs::StepLaws::steps), unfolding(crate::specs::Secant::opening))]
 fn opening(a: &[f64], stop: StopRule, first: f64, second: f64, progress: Progress) -> Turn<Secant>
     requires { Room 2 progress }
@@ -69,7 +70,7 @@ fn opening(a: &[f64], stop: StopRule, first: f64, second: f64, progress: Progres
 fn candidate(s: Secant) -> f64
     ensures { result ≡ candidate_of s }
 {
-    s.second.x - s.second.y * (s.second.x - s.first.x) / (s.second.y - s.first.y)
+    s.first.chord_to(s.second)
 }
 
 // The candidate was evaluated: it is found, or the two last points go on.

@@ -96,6 +96,7 @@ impl StopRule {
     }
 
     // Whether a derivative, or the difference of two values, is too close to zero to go on from.
+    // As `found`, under its own name: the rules in docs/RULES.md speak of both, and of other numbers.
     pub fn flat(self, slope: f64) -> bool
         ensures { result ≡ flat_at self slope }
     {

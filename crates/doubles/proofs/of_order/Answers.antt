@@ -8,13 +8,13 @@ use mathlib.Core.Bool.{true, false, not, true≢false}
 use lib.Dec.{T}
 use lib.IntN.{ℤ, pos, negsuc, nat_abs, ◌-ℤ◌, +ℤ_idl}
 use lib.Signed.{le_z, lt_z, non_neg}
-use lib.Ieee.{binary64, nan, div, of_bits, of_fields, odd, nan_bits}
+use lib.Ieee.{binary64, nan, of_bits, of_fields, odd, nan_bits}
 use mir.Syntax.{w64}
 use mir.Val.{to_z, of_z, SFits, Fits}
 use mir.Facts.{to_z-of_z}
 use borrow.Author.Rules.{sfits_of}
 use borrow.Author.Tests.{leb-true, leb-false, ltb-true, le-ltb}
-use Rattle.doubles.specs.Doubles.{nought, pattern_of, of_order}
+use Rattle.doubles.specs.Doubles.{pattern_of, of_order}
 use Rattle.doubles.specs.Number.{bound}
 use Rattle.doubles.proofs.Number.{low_no_nan, of_order_is}
 use Rattle.doubles.proofs.of_order.Goals as goal
@@ -23,13 +23,13 @@ use Rattle.doubles.proofs.of_order.Goals as goal
 abbrev again : ℤ → ℤ
 again z = to_z w64 (of_z w64 z)
 
-zero_by_zero : div binary64 nought nought ≡ nan
-unfolding div of_bits of_fields odd
-zero_by_zero = refl
+no_number : of_bits binary64 0x7ff8_0000_0000_0000 ≡ nan
+unfolding of_bits of_fields odd
+no_number = refl
 
-too_large : (k : ℤ) → bound ≤ nat_abs k → div binary64 nought nought ≡ of_order k
+too_large : (k : ℤ) → bound ≤ nat_abs k → of_bits binary64 0x7ff8_0000_0000_0000 ≡ of_order k
 unfolding of_order
-too_large k h = zero_by_zero ∙ rw (le-ltb (nat_abs k) bound h)
+too_large k h = no_number ∙ rw (le-ltb (nat_abs k) bound h)
 
 far_below : (k : ℤ) → le_z k (negsuc 0x7fef_ffff_ffff_ffff) ≡ true → bound ≤ nat_abs k
 far_below (pos n) h = absurd (true≢false (sym h))
@@ -72,10 +72,10 @@ module _ (k : ℤ) (f : SFits w64 k) where
   same : again k ≡ k
   same = to_z-of_z f
 
-  below_all : le_z (again k) (negsuc 0x7fef_ffff_ffff_ffff) ≡ true → div binary64 nought nought ≡ of_order k
+  below_all : le_z (again k) (negsuc 0x7fef_ffff_ffff_ffff) ≡ true → of_bits binary64 0x7ff8_0000_0000_0000 ≡ of_order k
   below_all h = too_large k (far_below k (subst (λ (z : ℤ). le_z z (negsuc 0x7fef_ffff_ffff_ffff) ≡ true) same h))
 
-  above_all : le_z (pos bound) (again k) ≡ true → div binary64 nought nought ≡ of_order k
+  above_all : le_z (pos bound) (again k) ≡ true → of_bits binary64 0x7ff8_0000_0000_0000 ≡ of_order k
   above_all h = too_large k (far_above k (subst (λ (z : ℤ). le_z (pos bound) z ≡ true) same h))
 
   module _ (low : le_z (again k) (negsuc 0x7fef_ffff_ffff_ffff) ≡ false) (high : le_z (pos bound) (again k) ≡ false) where
