@@ -21,17 +21,15 @@ use Rattle.record_text.specs.RecordTexts.{pair, rule_text, call_text, record_tex
 -- ---- bytes as digits
 
 -- a byte as io writes it
-pub pair_is : {n b k : ℕ} {t : List ℕ} → n ≡ b → b < 2 ^ 8 → IsDigitCount 16 2 n k → t ≡ last_digits 16 k n → t ≡ pair b
-pair_is {n} {b} {k} e h f t = t ∙ rw (two, e, high)
-  where
-    small : n < 2 ^ 8
-    small = rw e h
+module _ {n k : ℕ} (h : n < 2 ^ 8) (f : IsDigitCount 16 2 n k) where
+  pub two_digits : k ≡ 2
+  two_digits = let p = places 16 2 2 (2 ^ 8) n k (omega arith) (omega arith) (omega arith) h f in let q = f.0 in omega arith
 
-    two : k ≡ 2
-    two = let p = places 16 2 2 (2 ^ 8) n k (omega arith) (omega arith) (omega arith) small f in let q = f.0 in omega arith
-
-    high : b / 16 % 16 ≡ b / 16
-    high = omega arith
+  pub pair_is : {b : ℕ} {t : List ℕ} → n ≡ b → t ≡ last_digits 16 k n → t ≡ pair b
+  pair_is {b} e t = t ∙ rw (two_digits, ← e, high)
+    where
+      high : n / 16 % 16 ≡ n / 16
+      high = omega arith
 
 -- ---- a record's line
 
