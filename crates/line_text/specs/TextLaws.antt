@@ -24,6 +24,10 @@ module _ {a : List ℕ} {at : ℕ} {t b : List ℕ} {r : ℕ} (x : Put a at t b 
   pub put_leaves : drop r b ≡ drop r a
   put_leaves = rw x.is (drop_at (take at a ++ t) (drop r a) r front_length)
 
+  -- it ends within the buffer
+  pub put_within : r ≤ length b
+  put_within = rw (x.is, length-append, front_length) (omega arith)
+
   -- nothing of it is left open
   pub put_fixed : {c : List ℕ} {q : ℕ} → Put a at t c q → b ≡ c
   put_fixed {c} {q} y = x.is ∙ ap (λ (k : ℕ). take at a ++ t ++ drop k a) (x.ends ∙ sym y.ends) ∙ sym y.is
