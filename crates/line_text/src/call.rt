@@ -43,6 +43,7 @@ pub fn read_doubles(s: &[u8], at: usize, k: usize, a: &mut [f64]) -> Option<usiz
 }
 
 // The method's number, if the field is one.
+#[tactic(auto, using(std::proofs::lemmas::Bool::Decides::nat_tests), unfolding(crate::specs::Calls::method_number))]
 fn method_number(t: &[u8]) -> Option<u8>
     ensures { result ≡ method_number t.now }
 {

@@ -37,6 +37,7 @@ pub fn decimal(t: &[u8]) -> Option<u64>
 }
 
 // Just 16 hexadecimal digits.
+#[tactic(auto, unfolding(crate::specs::Digits::word_of))]
 pub fn word(t: &[u8]) -> Option<u64>
     ensures { result ≡ word_of t.now }
 {
