@@ -70,11 +70,11 @@ pub fn fed<R: Replies>(
     ensures from_lt_at { from < result.at }
 {
     let mut s = start;
-    for i in from..block.len() {
-        s = taken::<R>(line, out, s, block[i]);
+    for (i, b) in block[from..].iter().enumerate() {
+        s = taken::<R>(line, out, s, *b);
         if out.len() - R::LONGEST < s.waiting {
             return Pause {
-                at: i + 1,
+                at: from + i + 1,
                 state: s,
             };
         }
