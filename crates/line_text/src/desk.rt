@@ -2,9 +2,8 @@
 ghost use Rattle.std.specs.Prelude.{◌≡◌, ◌≤◌, length, is_ok};
 ghost use Rattle.line_text.specs.Inputs.{Begun, fresh, line_of};
 
-use crate::input::State;
-use crate::reply::Replies;
-use crate::{input, reply};
+use crate::input::{self, State};
+use crate::reply::{self, Replies};
 use std::io::{Read, Stdin, Stdout, Write};
 
 // The line that has begun and the replies, in their buffers: fixed memory, no heap. Between two blocks no reply waits.

@@ -6,7 +6,7 @@ ghost use Rattle.line_text.specs.Digits.{digit_of, number_of, decimal_of, word_o
 pub fn digit(b: u8) -> Option<u64>
     ensures { result ≡ digit_of b }
 {
-    let d = (b as char).to_digit(16)?;
+    let d = char::from(b).to_digit(16)?;
     Some(u64::from(d))
 }
 

@@ -2,13 +2,12 @@
 ghost use Rattle.std.specs.Prelude.{◌≡◌, ◌+◌, ◌≤◌, ◌<◌, length};
 ghost use Rattle.line_text.specs.Inputs.{Fine, Taken, Fed, stops_at};
 
-use crate::reply;
-use crate::reply::Replies;
+use crate::reply::{self, Replies};
 
 // Where things stand between two bytes. The line and the replies stand in buffers of a program, in fixed memory with no heap.
 #[derive(Clone, Copy, Default)]
 pub struct State {
-    // How many bytes of the present line are kept, and whether there were more than can be.
+    // How many bytes of the present line are kept, and whether there were more than can be: no Option, since they count under both.
     pub kept: usize,
     pub is_long: bool,
     // How many bytes of replies wait.

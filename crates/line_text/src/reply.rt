@@ -4,8 +4,8 @@ ghost use Rattle.std.proofs.Common.{lit≤};
 ghost use Rattle.line_text.specs.Calls.{Request, request_of};
 ghost use Rattle.line_text.specs.Texts.{Put, trimmed, answer_for, reply_to, line_reply};
 
-use crate::call::Call;
-use crate::{call, text};
+use crate::call::{self, Call};
+use crate::text;
 
 // What a program replies to the calls that its lines are.
 pub trait Replies {
