@@ -11,6 +11,7 @@ pub fn digit(b: u8) -> Option<u64>
 }
 
 // The number whose digits in a base are t, if they are digits and a u64 holds it.
+#[tactic(auto, using(crate::specs::DigitLaws::ends))]
 pub fn number_in(base: u64, t: &[u8]) -> Option<u64>
     requires { (2 ≤ base) × (base ≤ 16) }
     ensures { result ≡ number_of base t.now }
