@@ -57,6 +57,33 @@ module _ (s : List ℕ) (at k : ℕ) (before a : List Float) (p i : ℕ) (g : Fi
         are_on : take (i + 1) (set a i x) ++ filled_with (k - (i + 1)) (drop f.to s) (drop (i + 1) (set a i x)) ≡ take i a ++ filled_with (k - i) (drop p s) (drop i a)
         are_on = rw (one_more, drop-cons a i nan inside, the_word, q, v, j.leaves, add-one i, take-suc-set a i (of_bits binary64 n) inside, drop-set-lt (suc i) a i (of_bits binary64 n) (omega arith), append_assoc)
 
+-- all k are read
+pub fill_done : {s : List ℕ} {at k : ℕ} {before a : List Float} {p i : ℕ} → Filling s at k before a p i → k ≤ i → Filled s at k before a (Some p)
+fill_done {s} {at} {k} {before} {a} {p} {i} g h =
+    record {
+      ends = record { within = g.within; all = sym g.all ∙ rw none; leaves = rw none at g.leaves };
+      array = sym (take-append-drop i a) ∙ rw none at g.are;
+    }
+  where
+    none : k - i ≡ zero
+    none = omega arith
+
+-- only the first k places of an array are written
+filled_part : (k : ℕ) (t : List ℕ) (a : List Float) → filled_with k t (take k a) ++ drop k a ≡ filled_with k t a
+filled_part zero t a = refl
+filled_part (suc k) t [] = refl
+filled_part (suc k) t (x ∷ a) = go (is_some (word_of (field_of t))) (filled_part k (rest_of t) a)
+  where
+    d : Float
+    d = double_of (word_of (field_of t))
+
+    go : (b : Bool) → filled_with k (rest_of t) (take k a) ++ drop k a ≡ filled_with k (rest_of t) a → cond b (d ∷ filled_with k (rest_of t) (take k a)) (x ∷ take k a) ++ drop k a ≡ cond b (d ∷ filled_with k (rest_of t) a) (x ∷ a)
+    go true e = ap (λ (r : List Float). d ∷ r) e
+    go false e = ap (λ (r : List Float). x ∷ r) (take-append-drop k a)
+
+pub part_filled : (s : List ℕ) (at k : ℕ) (a : List Float) {b : List Float} {r : Option ℕ} → Filled s at k (take k a) b r → Filled s at k a (b ++ drop k a) r
+part_filled s at k a f = record { ends = f.ends; array = rw f.array (filled_part k (drop at s) a) }
+
 -- where each is a word, the array begins with their doubles
 pub filled_front : (k : ℕ) (t : List ℕ) (a : List Float) → k ≤ length a → all_words k t ≡ true → take k (filled_with k t a) ≡ doubles_of k t
 filled_front zero t a h e = refl

@@ -73,3 +73,6 @@ module _ (base v : ℕ) (t : List ℕ) (i : ℕ) (h : i < length t) where
 pub number_end : (base v : ℕ) (t : List ℕ) (i : ℕ) {n : Option ℕ} → number_from base v (drop i t) ≡ n → length t ≤ i → v < 2 ^ 64 → Some v ≡ n
 unfolding number_from
 number_end base v t i k h s = sym (rw (drop_of_length-le t h, lt-ltb v (2 ^ 64) s)) ∙ k
+
+-- where a number's digits end, or are none
+pub ruleset ends = (number_no_digit, number_large_digit, number_no_product, number_no_sum, number_end)

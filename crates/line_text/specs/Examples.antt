@@ -8,7 +8,7 @@ use Rattle.roots.specs.Methods.{start_count, method_of}
 use Rattle.line_text.specs.Digits.{digit_of, number_from, decimal_of, word_of}
 use Rattle.line_text.specs.Fields.{field_of, rest_of}
 use Rattle.line_text.specs.Calls.{call, method_number, with_limit, with_doubles, with_count, asked_of, count_fills, line_fills}
-use Rattle.line_text.specs.Texts.{bytes, decimal_text, hex_text, trimmed, reply_to}
+use Rattle.line_text.specs.Texts.{bytes, decimal_text, hex_text, trimmed, answer_for, reply_to}
 use Rattle.line_text.specs.Inputs.{fresh, grown, next_line, reply_at, line_after, replies_to, stored, buffer_after, count_taken}
 use Rattle.line_text.specs.declared.call.Fault.TheVariants as fault
 
@@ -98,7 +98,7 @@ arrays = (refl, refl)
 
 -- two lines and the start of a third, of which three bytes are kept
 input :
-    (replies_to 3 fresh (bytes "6\n\n1 2 3") ≡ bytes "error method\nerror empty\n")
+    (replies_to answer_for 3 fresh (bytes "6\n\n1 2 3") ≡ bytes "error method\nerror empty\n")
     × (line_after 3 fresh (bytes "6\n\n1 2 3") ≡ record { text = bytes "1 2"; long = true })
     × (buffer_after 3 (bytes "abc") fresh (bytes "6\n\n1") ≡ bytes "1bc")
 unfolding next_line grown reply_at reply_to trimmed asked_of field_of rest_of method_number stored
@@ -106,8 +106,8 @@ input = (refl, refl, refl)
 
 -- the first reply has 13 bytes, the second 12: where up to 12 may wait only the first line is taken, with 13 the second too
 stops :
-    (count_taken 3 12 fresh 0 (bytes "6\n\n1 2 3") ≡ 2)
-    × (count_taken 3 13 fresh 0 (bytes "6\n\n1 2 3") ≡ 3)
-    × (count_taken 3 25 fresh 0 (bytes "6\n\n1 2 3") ≡ 8)
+    (count_taken answer_for 3 12 fresh 0 (bytes "6\n\n1 2 3") ≡ 2)
+    × (count_taken answer_for 3 13 fresh 0 (bytes "6\n\n1 2 3") ≡ 3)
+    × (count_taken answer_for 3 25 fresh 0 (bytes "6\n\n1 2 3") ≡ 8)
 unfolding next_line grown reply_at reply_to trimmed asked_of field_of rest_of method_number
 stops = (refl, refl, refl)

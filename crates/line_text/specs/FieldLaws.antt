@@ -2,7 +2,7 @@
 use Rattle.std.specs.Prelude.{ℕ, suc, ◌+◌, ◌-◌, ◌≤◌, ◌<◌, Bool, true, false, cond, not, List, [], ◌∷◌, ◌++◌, ◌≡◌, refl, eqb, ltb, length, take, drop, get_or, position, Option, Some, None, unwrap_or}
 use Rattle.std.proofs.lemmas.Bool.Decides.{nat_tests}
 use Rattle.std.proofs.Common.{arith, sym, ap, ◌∙◌, length-drop, take-suc, get_or-drop, length-take-le, eq-eqb, ne_eqb, drop-drop}
-use Rattle.std.proofs.Math.Seq.{take-length}
+use Rattle.std.proofs.lemmas.List.{take_rest}
 use Rattle.std.specs.List.{position_or_len}
 use Rattle.std.proofs.lemmas.List.Sums.{prefix_len-le-length}
 use Rattle.line_text.specs.Fields.{field_of, rest_of, Field}
@@ -20,10 +20,6 @@ part_more s i h from l = rw (counts, take-suc (drop from s) (i - from) 0 inside,
 
     inside : i - from < length (drop from s)
     inside = rw length-drop (omega arith)
-
--- what stands from an index on, as a part
-pub rest_part : (s : List ℕ) (i : ℕ) → take (length s - i) (drop i s) ≡ drop i s
-rest_part s i = rw (← length-drop i s, take-length)
 
 -- ---- the first byte that passes, or the end
 
@@ -43,14 +39,14 @@ found_or_end p t {r} {n} e f = (is, rw is short)
 -- ---- a field, behind the spaces in front of it
 
 pub part_within : (s : List ℕ) (at : ℕ) {n : ℕ} → at ≤ length s → n ≤ length (take (length s - at) (drop at s)) → at + n ≤ length s
-part_within s at {n} h l = let a : n ≤ length s - at = rw (rest_part, length-drop) at l in omega arith
+part_within s at {n} h l = let a : n ≤ length s - at = rw (take_rest, length-drop) at l in omega arith
 
 module _ (s : List ℕ) (at : ℕ) {n m : ℕ} (e : n ≡ position_or_len (λ b. not (eqb b 32)) (take (length s - at) (drop at s))) (f : m ≡ position_or_len (λ b. eqb b 32) (take (length s - (at + n)) (drop (at + n) s))) (h : at ≤ length s) (l : n ≤ length (take (length s - at) (drop at s))) (k : m ≤ length (take (length s - (at + n)) (drop (at + n) s))) where
   spaces_is : n ≡ position_or_len (λ b. not (eqb b 32)) (drop at s)
-  spaces_is = rw rest_part at e
+  spaces_is = rw take_rest at e
 
   field_is : m ≡ position_or_len (λ b. eqb b 32) (drop (at + n) s)
-  field_is = rw rest_part at f
+  field_is = rw take_rest at f
 
   pub field_found : Field s at (record { from = at + n; to = at + n + m })
   unfolding field_of rest_of

@@ -1,5 +1,6 @@
--- The input as lines, and the replies to them. Definitions, and what the contracts of the program say of its state.
+-- The input as lines, and the replies to them: `text` is what a program replies to a call. Definitions, and what contracts say of its state.
 use Rattle.std.specs.Prelude.{ℕ, ◌+◌, ◌-◌, ◌≤◌, Bool, true, false, cond, List, [], ◌∷◌, ◌++◌, ◌≡◌, eqb, ltb, length, take, drop, set}
+use Rattle.line_text.specs.Calls.{Request}
 use Rattle.line_text.specs.Texts.{line_reply, Put}
 use Rattle.line_text.specs.declared.input.State.{State}
 
@@ -22,17 +23,17 @@ grown most l b =
 unfoldable pub next_line : ℕ → Line → ℕ → Line
 next_line most l b = cond (eqb b 10) fresh (grown most l b)
 
-unfoldable pub reply_at : Line → ℕ → List ℕ
-reply_at l b = cond (eqb b 10) (line_reply l.long l.text) []
+unfoldable pub reply_at : (Request → List ℕ) → Line → ℕ → List ℕ
+reply_at text l b = cond (eqb b 10) (line_reply text l.long l.text) []
 
 -- the line that has begun behind the bytes t, and the replies to those that ended in them
 abbrev pub line_after : ℕ → Line → List ℕ → Line
 line_after most l [] = l
 line_after most l (b ∷ t) = line_after most (next_line most l b) t
 
-abbrev pub replies_to : ℕ → Line → List ℕ → List ℕ
-replies_to most l [] = []
-replies_to most l (b ∷ t) = reply_at l b ++ replies_to most (next_line most l b) t
+abbrev pub replies_to : (Request → List ℕ) → ℕ → Line → List ℕ → List ℕ
+replies_to text most l [] = []
+replies_to text most l (b ∷ t) = reply_at text l b ++ replies_to text most (next_line most l b) t
 
 -- what the line's buffer holds: a byte stands behind those that are kept, and nothing is wiped out
 unfoldable pub stored : List ℕ → Line → ℕ → List ℕ
@@ -43,9 +44,9 @@ buffer_after most line l [] = line
 buffer_after most line l (b ∷ t) = buffer_after most (stored line l b) (next_line most l b) t
 
 -- how many of the bytes t are taken while w bytes of replies wait: all, or those up to a reply with which more than `full` wait
-abbrev pub count_taken : ℕ → ℕ → Line → ℕ → List ℕ → ℕ
-count_taken most full l w [] = 0
-count_taken most full l w (b ∷ t) = cond (ltb full (w + length (reply_at l b))) 1 (1 + count_taken most full (next_line most l b) (w + length (reply_at l b)) t)
+abbrev pub count_taken : (Request → List ℕ) → ℕ → ℕ → Line → ℕ → List ℕ → ℕ
+count_taken text most full l w [] = 0
+count_taken text most full l w (b ∷ t) = cond (ltb full (w + length (reply_at text l b))) 1 (1 + count_taken text most full (next_line most l b) (w + length (reply_at text l b)) t)
 
 -- ---- a program's state
 
@@ -58,32 +59,26 @@ pub record Fine (line out : List ℕ) (s : State) : Type 0 where
   pub kept : s.kept ≤ length line
   pub waiting : s.waiting ≤ length out
 
--- no reply waits, and there is room for one
-pub record Idle (line out : List ℕ) (s : State) : Type 0 where
-  pub kept : s.kept ≤ length line
-  pub none : s.waiting ≡ 0
-  pub room : 156 ≤ length out
-
 -- one byte was taken
-pub record Taken (line out : List ℕ) (s : State) (b : ℕ) (line' out' : List ℕ) (r : State) : Type 0 where
+pub record Taken (text : Request → List ℕ) (line out : List ℕ) (s : State) (b : ℕ) (line' out' : List ℕ) (r : State) : Type 0 where
   pub fine : Fine line' out' r
   pub begun : line_of line' r ≡ next_line (length line) (line_of line s) b
   pub buffer : line' ≡ stored line (line_of line s) b
-  pub replies : Put out s.waiting (reply_at (line_of line s) b) out' r.waiting
+  pub replies : Put out s.waiting (reply_at text (line_of line s) b) out' r.waiting
 
 -- a block was answered: if it could be, the line that has begun is the one behind it
 abbrev pub Begun : List ℕ → List ℕ → State → List ℕ → Bool → State → Type 0
 Begun block line s line' answered r = answered ≡ true → line_of line' r ≡ line_after (length line) (line_of line s) block
 
--- where a block is left: another reply has to find room
-abbrev pub stops_at : List ℕ → ℕ → List ℕ → List ℕ → State → ℕ
-stops_at block from line out s = from + count_taken (length line) (length out - 156) (line_of line s) s.waiting (drop from block)
+-- where a block is left: another reply, of up to `longest` bytes, has to find room
+abbrev pub stops_at : (Request → List ℕ) → ℕ → List ℕ → ℕ → List ℕ → List ℕ → State → ℕ
+stops_at text longest block from line out s = from + count_taken text (length line) (length out - longest) (line_of line s) s.waiting (drop from block)
 
 -- the bytes of a block from an index on were taken, up to i
-pub record Fed (block : List ℕ) (from : ℕ) (line out : List ℕ) (s : State) (i : ℕ) (line' out' : List ℕ) (r : State) : Type 0 where
+pub record Fed (text : Request → List ℕ) (block : List ℕ) (from : ℕ) (line out : List ℕ) (s : State) (i : ℕ) (line' out' : List ℕ) (r : State) : Type 0 where
   pub past : from ≤ i
   pub within : i ≤ length block
   pub fine : Fine line' out' r
   pub begun : line_of line' r ≡ line_after (length line) (line_of line s) (take (i - from) (drop from block))
   pub buffer : line' ≡ buffer_after (length line) line (line_of line s) (take (i - from) (drop from block))
-  pub replies : Put out s.waiting (replies_to (length line) (line_of line s) (take (i - from) (drop from block))) out' r.waiting
+  pub replies : Put out s.waiting (replies_to text (length line) (line_of line s) (take (i - from) (drop from block))) out' r.waiting

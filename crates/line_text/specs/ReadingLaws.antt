@@ -3,13 +3,14 @@ use Rattle.std.specs.Prelude.{ℕ, ◌+◌, ◌-◌, ◌≤◌, ◌<◌, false, 
 use Rattle.std.proofs.Common.{arith, sym, ap, ◌∙◌, get_or-take, length-take-le, lt-ltb, le-ltb}
 use Rattle.std.proofs.Math.Seq.{take-take}
 use Rattle.std.proofs.lemmas.Bool.Decides.{nat_tests}
+use Rattle.std.proofs.lemmas.List.{take_rest}
 use Rattle.std.specs.Float.{nan}
 use Rattle.simple_convergency.specs.Stop.{tolerances_of}
 use Rattle.roots.specs.Methods.{start_count, method_of}
 use Rattle.roots.specs.declared.Method.{Method}
 use Rattle.line_text.specs.Digits.{decimal_of}
 use Rattle.line_text.specs.Fields.{field_of, rest_of, Field}
-use Rattle.line_text.specs.FieldLaws.{rest_part, no_field, some_field}
+use Rattle.line_text.specs.FieldLaws.{no_field, some_field}
 use Rattle.line_text.specs.Calls.{all_words, doubles_of, filled_with, EndsAt, Filled, method_number, Request, Asked, limited, with_limit, doubles, with_doubles, counted, with_count, with_method, asked_of, due, count_fills, method_fills, line_fills, request_of, asked_by, ReadAs}
 use Rattle.line_text.specs.CallLaws.{filled_front}
 use Rattle.line_text.specs.declared.fields.Span.{Span}
@@ -95,7 +96,7 @@ module _ (s : List ℕ) (m n : ℕ) (before a : List Float) {k : ℕ} (e : k ≡
 
     pub doubles_read : {r : Result Call Fault} → ReadAs (with_limit m n a (take (length s - p) (drop p s))) a a r → ReadAs (with_doubles m n s) (filled_with (doubles m n) s before) a r
     unfolding with_doubles
-    doubles_read {r} x = record { within = x.within; is = x.is ∙ ap (with_limit m n a) (rest_part s p) ∙ same; array = rw (← e) g.array }
+    doubles_read {r} x = record { within = x.within; is = x.is ∙ ap (with_limit m n a) (take_rest s p) ∙ same; array = rw (← e) g.array }
       where
         same : with_limit m n a (drop p s) ≡ with_doubles m n s
         same = first_ones m n a (n + k + 2) (drop p s) (rw e) ∙ rw (← e, ends.all, front, ends.leaves)
@@ -125,8 +126,8 @@ module _ (s : List ℕ) (m : ℕ) (a : List Float) {f : Span} (j : Field s 0 f) 
     count_read h k =
         record {
           within = k.within;
-          is = k.is ∙ rw rest_part (sym (the_count ∙ rw (q, le-ltb 40 n h)));
-          array = k.array ∙ rw rest_part (sym (rw (q, le-ltb 40 n h)) ∙ the_doubles);
+          is = k.is ∙ rw take_rest (sym (the_count ∙ rw (q, le-ltb 40 n h)));
+          array = k.array ∙ rw take_rest (sym (rw (q, le-ltb 40 n h)) ∙ the_doubles);
         }
 
 -- ---- the method, at the start of the line
@@ -152,7 +153,7 @@ module _ (s : List ℕ) (a : List Float) {f : Span} (j : Field s 0 f) where
     read_no_method q x = rw x (wrong (asked_of s) (line_fills s a) a fault.Method (the_method ∙ rw q) (sym (the_fills ∙ rw q)))
 
     pub read_read : {m : ℕ} → d ≡ Some m → {b : List Float} {r : Result Call Fault} → ReadAs (with_count m (take (length s - f.to) (drop f.to s))) (count_fills m (take (length s - f.to) (drop f.to s)) a) b r → ReadAs (asked_of s) (line_fills s a) b r
-    read_read q k = record { within = k.within; is = k.is ∙ rw rest_part (sym (the_method ∙ rw q)); array = k.array ∙ rw rest_part (sym (the_fills ∙ rw q)) }
+    read_read q k = record { within = k.within; is = k.is ∙ rw take_rest (sym (the_method ∙ rw q)); array = k.array ∙ rw take_rest (sym (the_fills ∙ rw q)) }
 
 -- ---- one reading
 

@@ -4,10 +4,8 @@ use lib.Pointwise.{pointwise}
 use Rattle.std.proofs.Math.Bool.{and-true}
 use Rattle.std.proofs.Math.Seq.{take-length}
 use Rattle.std.proofs.Common.{Bor, arith, length-take-le, drop-cons, drop_of_length-le}
-use Rattle.numerical.specs.declared.Outcome.{Outcome}
-use Rattle.roots.specs.Calls.{answer}
-use Rattle.line_text.specs.Calls.{asked_of, asked_by, ReadAs}
-use Rattle.line_text.specs.Texts.{text_of, fault_text, replied, trimmed, reply_to, Put}
+use Rattle.line_text.specs.Calls.{Request, asked_of, request_of, asked_by, ReadAs}
+use Rattle.line_text.specs.Texts.{fault_text, replied, trimmed, reply_to, Put}
 use Rattle.line_text.specs.declared.call.Call.{Call}
 use Rattle.line_text.specs.declared.call.Fault.{Fault}
 
@@ -42,13 +40,13 @@ trim_count s o h e = rw (trim_is s o h e) (trim_part s.now)
 
 -- ---- what was read, and its reply
 
-module _ (s t : List ℕ) {filled : List Float} (a : List Float) {r : Result Call Fault} (k : ReadAs (asked_of t) filled a r) (w : t ≡ trimmed s) where
-  replies : replied (asked_by r a) ≡ reply_to s
+module _ (text : Request → List ℕ) (s t : List ℕ) {filled : List Float} (a : List Float) {r : Result Call Fault} (k : ReadAs (asked_of t) filled a r) (w : t ≡ trimmed s) where
+  replies : replied text (asked_by r a) ≡ reply_to text s
   unfolding reply_to
   replies = rw (k.is, w)
 
-  pub call_put : (before : List ℕ) (at : ℕ) {now : List ℕ} {p : ℕ} {c : Call} {o : Outcome} → r ≡ Ok c → o ≡ answer (take c.count a) c.method c.tolerances c.limit → Put before at (text_of o) now p → Put before at (reply_to s) now p
-  call_put before at e f g = rw (← replies, e, ← f) g
+  pub call_put : (before : List ℕ) (at : ℕ) {now : List ℕ} {p : ℕ} {c : Call} → r ≡ Ok c → Put before at (text (request_of c a)) now p → Put before at (reply_to text s) now p
+  call_put before at e g = rw (← replies, e) g
 
-  pub wrong_put : (before : List ℕ) (at : ℕ) {now : List ℕ} {p : ℕ} {why : Fault} → r ≡ Err why → Put before at (fault_text why) now p → Put before at (reply_to s) now p
+  pub wrong_put : (before : List ℕ) (at : ℕ) {now : List ℕ} {p : ℕ} {why : Fault} → r ≡ Err why → Put before at (fault_text why) now p → Put before at (reply_to text s) now p
   wrong_put before at e g = rw (← replies, e) g

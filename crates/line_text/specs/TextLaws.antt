@@ -24,6 +24,10 @@ module _ {a : List ℕ} {at : ℕ} {t b : List ℕ} {r : ℕ} (x : Put a at t b 
   pub put_leaves : drop r b ≡ drop r a
   put_leaves = rw x.is (drop_at (take at a ++ t) (drop r a) r front_length)
 
+  -- it ends within the buffer
+  pub put_within : r ≤ length b
+  put_within = rw (x.is, length-append, front_length) (omega arith)
+
   -- nothing of it is left open
   pub put_fixed : {c : List ℕ} {q : ℕ} → Put a at t c q → b ≡ c
   put_fixed {c} {q} y = x.is ∙ ap (λ (k : ℕ). take at a ++ t ++ drop k a) (x.ends ∙ sym y.ends) ∙ sym y.is
@@ -81,9 +85,9 @@ spelled_is (suc j) (suc k) n h f = rw (le-ltb n 10 ten, spelled_is j k (n / 10) 
         let q = pow-le-pow_right {n = 10} (omega arith) {i = 1} {j = suc k} (omega arith) in
         omega arith
 
--- no more than the most digits that a number of 64 bits can have
-places : (base least most n k : ℕ) → 0 < base → least ≤ most → 2 ^ 64 ≤ base ^ most → n < 2 ^ 64 → IsDigitCount base least n k → k ≤ most
-places base least most n k b l m h f = elim (eq-zero-or-pos (k - most)) [ inl e ↦ omega arith | inr g ↦ absurd (too_many (omega arith)) ]
+-- no more than the most digits that a number below a bound can have
+pub places : (base least most bound n k : ℕ) → 0 < base → least ≤ most → bound ≤ base ^ most → n < bound → IsDigitCount base least n k → k ≤ most
+places base least most bound n k b l m h f = elim (eq-zero-or-pos (k - most)) [ inl e ↦ omega arith | inr g ↦ absurd (too_many (omega arith)) ]
   where
     too_many : most < k → ⊥
     too_many g =
@@ -95,7 +99,7 @@ places base least most n k b l m h f = elim (eq-zero-or-pos (k - most)) [ inl e 
 
 module _ (n k : ℕ) (h : n < 2 ^ 64) (f : IsDigitCount 10 1 n k) (d : List ℕ) (c : k ≡ length (take k d)) where
   decimal_places : k ≤ 20
-  decimal_places = places 10 1 20 n k (omega arith) (omega arith) (omega arith) h f
+  decimal_places = places 10 1 20 (2 ^ 64) n k (omega arith) (omega arith) (omega arith) h f
 
   spelled_all : (k : ℕ) → k ≤ 20 → IsDigitCount 10 1 n k → spelled 19 n ≡ last_digits 10 k n
   spelled_all zero l g = absurd (let p = g.0 in omega arith)
@@ -110,7 +114,7 @@ module _ (n k : ℕ) (h : n < 2 ^ 64) (f : IsDigitCount 10 1 n k) (d : List ℕ)
 
 module _ (n k : ℕ) (h : n < 2 ^ 64) (f : IsDigitCount 16 16 n k) (d : List ℕ) (c : k ≡ length (take k d)) where
   hex_places : k ≡ 16
-  hex_places = let p = places 16 16 16 n k (omega arith) (omega arith) (omega arith) h f in let q = f.0 in omega arith
+  hex_places = let p = places 16 16 16 (2 ^ 64) n k (omega arith) (omega arith) (omega arith) h f in let q = f.0 in omega arith
 
   pub hex_put : (a : List ℕ) (at after : ℕ) {b : List ℕ} {e : List ℕ} {p r : ℕ} → take k d ≡ last_digits 16 k n → Put a at (take k d) b p → Put b p (after ∷ []) e r → Put a at (hex_field n after) e r
   unfolding hex_text
@@ -124,9 +128,9 @@ module _ (n k : ℕ) (h : n < 2 ^ 64) (f : IsDigitCount 16 16 n k) (d : List ℕ
 
 -- ---- an answer's line
 
-pub progress_put : (a : List ℕ) (at : ℕ) (progress : Progress) {b c d e : List ℕ} {p q u r : ℕ} → Put a at (decimal_field progress.tally.steps.0 32) b p → Put b p (decimal_field progress.tally.values.0 32) c q → Put c q (decimal_field progress.tally.derivatives.0 32) d u → Put d u (decimal_field progress.mark 10) e r → Put a at (progress_text progress) e r
+pub progress_put : (a : List ℕ) (at : ℕ) (progress : Progress) {b c d e : List ℕ} {p q u r m : ℕ} → Put a at (decimal_field progress.tally.steps.0 32) b p → Put b p (decimal_field progress.tally.values.0 32) c q → Put c q (decimal_field progress.tally.derivatives.0 32) d u → m ≡ progress.mark → Put d u (decimal_field m 10) e r → Put a at (progress_text progress) e r
 unfolding progress_text
-progress_put a at progress f g h i = put_both (put_both (put_both f g) h) i
+progress_put a at progress f g h k i = put_both (put_both (put_both f g) h) (rw k at i)
 
 pub outcome_put : (a : List ℕ) (at : ℕ) (o : Outcome) {b c d : List ℕ} {n p q r : ℕ} → n ≡ kind_of o.answer → Put a at (decimal_field n 32) b p → Put b p (numbers_text (numbers_of o.answer)) c q → Put c q (progress_text o.progress) d r → Put a at (text_of o) d r
 unfolding text_of

@@ -9,7 +9,7 @@ use Rattle.numerical.specs.Answers.{kind_of, numbers_of}
 use Rattle.numerical.specs.declared.Outcome.{Outcome}
 use Rattle.numerical.specs.declared.Progress.{Progress}
 use Rattle.roots.specs.Calls.{answer}
-use Rattle.line_text.specs.Calls.{Asked, asked_of}
+use Rattle.line_text.specs.Calls.{Request, Asked, asked_of}
 use Rattle.line_text.specs.declared.call.Fault.{Fault}
 use Rattle.line_text.specs.declared.call.Fault.TheVariants as fault
 
@@ -65,23 +65,27 @@ fault_text fault.Number = bytes "error number\n"
 fault_text fault.Limit = bytes "error limit\n"
 fault_text fault.Trailing = bytes "error trailing\n"
 
--- ---- a line's reply
+-- ---- a line's reply: `text` is what a program replies to a call
 
-abbrev pub replied : Asked → List ℕ
-replied (Ok r) = text_of (answer r.coefficients r.method r.tolerances r.limit)
-replied (Err why) = fault_text why
+-- the line tool replies the answer
+abbrev pub answer_for : Request → List ℕ
+answer_for r = text_of (answer r.coefficients r.method r.tolerances r.limit)
+
+abbrev pub replied : (Request → List ℕ) → Asked → List ℕ
+replied text (Ok r) = text r
+replied text (Err why) = fault_text why
 
 -- a line without the carriage return at its end
 unfoldable pub trimmed : List ℕ → List ℕ
 trimmed t = cond (eqb (get_or t (length t - 1) 0) 13) (take (length t - 1) t) t
 
-unfoldable pub reply_to : List ℕ → List ℕ
-reply_to t = replied (asked_of (trimmed t))
+unfoldable pub reply_to : (Request → List ℕ) → List ℕ → List ℕ
+reply_to text t = replied text (asked_of (trimmed t))
 
 -- a line that outgrew its buffer has one reply, whatever it says
-abbrev pub line_reply : Bool → List ℕ → List ℕ
-line_reply true t = bytes "error too long\n"
-line_reply false t = reply_to t
+abbrev pub line_reply : (Request → List ℕ) → Bool → List ℕ → List ℕ
+line_reply text true t = bytes "error too long\n"
+line_reply text false t = reply_to text t
 
 -- ---- a buffer
 

@@ -33,16 +33,17 @@ pub fn read_doubles(s: &[u8], at: usize, k: usize, a: &mut [f64]) -> Option<usiz
     ensures { Filled s.now at k a.old a.new result }
 {
     let mut p = at;
-    for i in 0..k {
+    for x in a[..k].iter_mut() {
         let f = fields::next(s, p);
         let n = digits::word(&s[f.from..f.to])?;
-        a[i] = doubles::from_pattern(n);
+        *x = doubles::from_pattern(n);
         p = f.to;
     }
     Some(p)
 }
 
 // The method's number, if the field is one.
+#[tactic(auto, using(std::proofs::lemmas::Bool::Decides::nat_tests), unfolding(crate::specs::Calls::method_number))]
 fn method_number(t: &[u8]) -> Option<u8>
     ensures { result ≡ method_number t.now }
 {

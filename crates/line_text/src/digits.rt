@@ -6,11 +6,12 @@ ghost use Rattle.line_text.specs.Digits.{digit_of, number_of, decimal_of, word_o
 pub fn digit(b: u8) -> Option<u64>
     ensures { result ≡ digit_of b }
 {
-    let d = (b as char).to_digit(16)?;
+    let d = char::from(b).to_digit(16)?;
     Some(u64::from(d))
 }
 
 // The number whose digits in a base are t, if they are digits and a u64 holds it.
+#[tactic(auto, using(crate::specs::DigitLaws::ends))]
 pub fn number_in(base: u64, t: &[u8]) -> Option<u64>
     requires { (2 ≤ base) × (base ≤ 16) }
     ensures { result ≡ number_of base t.now }
@@ -37,6 +38,7 @@ pub fn decimal(t: &[u8]) -> Option<u64>
 }
 
 // Just 16 hexadecimal digits.
+#[tactic(auto, unfolding(crate::specs::Digits::word_of))]
 pub fn word(t: &[u8]) -> Option<u64>
     ensures { result ≡ word_of t.now }
 {

@@ -2,12 +2,12 @@
 ghost use Rattle.std.specs.Prelude.{◌≡◌, ◌+◌, ◌≤◌, ◌<◌, length};
 ghost use Rattle.line_text.specs.Inputs.{Fine, Taken, Fed, stops_at};
 
-use crate::reply;
+use crate::reply::{self, Replies};
 
 // Where things stand between two bytes. The line and the replies stand in buffers of a program, in fixed memory with no heap.
-#[derive(Clone, Copy)]
+#[derive(Clone, Copy, Default)]
 pub struct State {
-    // How many bytes of the present line are kept, and whether there were more than can be.
+    // How many bytes of the present line are kept, and whether there were more than can be: no Option, since they count under both.
     pub kept: usize,
     pub is_long: bool,
     // How many bytes of replies wait.
@@ -22,20 +22,19 @@ pub struct Pause {
 }
 
 // One more byte: a line's end gives its reply, any other byte is kept if there is room.
-fn taken(line: &mut [u8], out: &mut [u8], s: State, b: u8) -> State
+fn taken<R: Replies>(line: &mut [u8], out: &mut [u8], s: State, b: u8) -> State
     requires fine { Fine line.old out.old s }
-    requires waiting_in_bounds { s.waiting + 156 ≤ length out.old }
-    ensures { Taken line.old out.old s b line.new out.new result }
+    requires waiting_in_bounds { s.waiting + R.LONGEST ≤ length out.old }
+    ensures { Taken R.text line.old out.old s b line.new out.new result }
 {
     let kept = s.kept;
     let is_long = s.is_long;
     let waiting = s.waiting;
     if b == b'\n' {
-        let end = reply::put_line(&line[..kept], is_long, out, waiting);
+        let end = reply::put_line::<R>(&line[..kept], is_long, out, waiting);
         return State {
-            kept: 0,
-            is_long: false,
             waiting: end,
+            ..State::default()
         };
     }
     if kept < line.len() {
@@ -55,20 +54,26 @@ fn taken(line: &mut [u8], out: &mut [u8], s: State, b: u8) -> State
 }
 
 // The bytes of a block from an index on, to its end or until another reply might not find room.
-pub fn fed(block: &[u8], from: usize, line: &mut [u8], out: &mut [u8], start: State) -> Pause
+pub fn fed<R: Replies>(
+    block: &[u8],
+    from: usize,
+    line: &mut [u8],
+    out: &mut [u8],
+    start: State,
+) -> Pause
     requires from_in_bounds { from < length block.now }
     requires fine { Fine line.old out.old start }
-    requires waiting_in_bounds { start.waiting + 156 ≤ length out.old }
-    ensures fed { Fed block.now from line.old out.old start result.at line.new out.new result.state }
-    ensures at_value { result.at ≡ stops_at block.now from line.old out.old start }
+    requires waiting_in_bounds { start.waiting + R.LONGEST ≤ length out.old }
+    ensures fed { Fed R.text block.now from line.old out.old start result.at line.new out.new result.state }
+    ensures at_value { result.at ≡ stops_at R.text R.LONGEST block.now from line.old out.old start }
     ensures from_lt_at { from < result.at }
 {
     let mut s = start;
-    for i in from..block.len() {
-        s = taken(line, out, s, block[i]);
-        if out.len() - 156 < s.waiting {
+    for (i, b) in block[from..].iter().enumerate() {
+        s = taken::<R>(line, out, s, *b);
+        if out.len() - R::LONGEST < s.waiting {
             return Pause {
-                at: i + 1,
+                at: from + i + 1,
                 state: s,
             };
         }

@@ -1,4 +1,5 @@
-// Lines of text for the searches: a line is read as a call, and its answer is printed as a line. Input and output are the program's.
+// Lines of text for the searches: a line is read as a call, and its answer is printed as a line. The desk does it for a program's
+// input and output, with what the program replies to a call.
 //
 // In: METHOD COUNT A0 .. START [START] VALUE_TOLERANCE POINT_TOLERANCE LIMIT, with a space or more between two fields.
 // METHOD is 1 Brent, 2 Illinois, 3 secant, 4 Newton, which has one start, 5 polynomial search. COUNT, up to 40, and LIMIT
@@ -12,6 +13,7 @@
 #![tactic(auto)]
 
 pub mod call;
+pub mod desk;
 pub mod digits;
 pub mod fields;
 pub mod input;

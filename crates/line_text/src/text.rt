@@ -95,7 +95,7 @@ fn put_progress(out: &mut [u8], at: usize, progress: Progress) -> usize
     let i = put_decimal(out, at, progress.tally.steps.0, b' ');
     let j = put_decimal(out, i, progress.tally.values.0, b' ');
     let k = put_decimal(out, j, progress.tally.derivatives.0, b' ');
-    put_decimal(out, k, progress.mark as u64, b'\n')
+    put_decimal(out, k, u64::from(progress.mark), b'\n')
 }
 
 // A line for an outcome: three doubles of 17 bytes and five numbers of 21 at most, each with the byte after it.
@@ -128,9 +128,9 @@ impl Fault {
 
 // A line for what is not a call.
 pub fn put_fault(out: &mut [u8], at: usize, why: Fault) -> usize
-    requires { at + 156 ≤ length out.old }
+    requires { at + 15 ≤ length out.old }
     ensures put { Put out.old at (fault_text why) out.new result }
-    ensures upper_bound { result ≤ at + 156 }
+    ensures upper_bound { result ≤ at + 15 }
 {
     put(out, at, why.text())
 }

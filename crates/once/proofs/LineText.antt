@@ -1,8 +1,9 @@
 -- Each public function of `line_text`: its contract allows one result, and one last value of each buffer.
-use Rattle.std.specs.Prelude.{ℕ, List, length, Float}
+use Rattle.std.specs.Prelude.{ℕ, List, length, Float, refl}
 use Rattle.std.proofs.Common.{ap, sym, ◌∙◌, length-take-le}
 use Rattle.line_text.proofs.call.read_doubles.Reads as read-doubles-reads
 use Rattle.line_text.proofs.call.read.Reads as read-reads
+use Rattle.line_text.proofs.desk.serve.Reads as serve-reads
 use Rattle.line_text.proofs.digits.digit.Reads as digit-reads
 use Rattle.line_text.proofs.digits.number_in.Reads as number-in-reads
 use Rattle.line_text.proofs.digits.decimal.Reads as decimal-reads
@@ -60,27 +61,32 @@ word_once = fixed _ _
 pub next_once : One next-reads.Learnt
 next_once k a x y e f p q = field_fixed p q
 
--- ---- input: where a block is left, then the buffers `line` and `out`
+-- ---- input: where a block is left, then the buffers `line` and `out`, whatever a program replies
 
-pub fed_once : One fed-reads.Learnt
-fed_once k a x y e f p q = rw (p.1.0, q.1.0, state_fixed (p.1.0 ∙ sym q.1.0) p.0 q.0)
+pub fed_once : (R A B C : _) → One (fed-reads.Learnt R A B C)
+fed_once R A B C k a x y e f p q = rw (p.1.0, q.1.0, state_fixed (p.1.0 ∙ sym q.1.0) p.0 q.0)
 
-pub fed_line : Last {B = List ℕ} fed-reads.Learnt (λ k e. e.1.1.0.now)
-fed_line k a x y e f p q = buffer_fixed (p.1.0 ∙ sym q.1.0) p.0 q.0
+pub fed_line : (R A B C : _) → Last {B = List ℕ} (fed-reads.Learnt R A B C) (λ k e. e.1.1.0.now)
+fed_line R A B C k a x y e f p q = buffer_fixed (p.1.0 ∙ sym q.1.0) p.0 q.0
 
-pub fed_out : Last {B = List ℕ} fed-reads.Learnt (λ k e. e.1.1.1.0.now)
-fed_out k a x y e f p q = replies_fixed (p.1.0 ∙ sym q.1.0) p.0 q.0
+pub fed_out : (R A B C : _) → Last {B = List ℕ} (fed-reads.Learnt R A B C) (λ k e. e.1.1.1.0.now)
+fed_out R A B C k a x y e f p q = replies_fixed (p.1.0 ∙ sym q.1.0) p.0 q.0
 
--- ---- reply: the length, and where a reply ends, then the buffer `out`
+-- ---- reply: the length, and where a reply ends, then the buffer `out`, whatever a program replies
 
 pub trimmed_length_once : One trimmed-length-reads.Learnt
 trimmed_length_once k a x y e f p q = sym (length-take-le x a.0.now p.0) ∙ ap length (p.1 ∙ sym q.1) ∙ length-take-le y a.0.now q.0
 
-pub put_line_once : One put-line-reads.Learnt
-put_line_once k a x y e f p q = p.0.ends ∙ sym q.0.ends
+pub put_line_once : (R A B C : _) → One (put-line-reads.Learnt R A B C)
+put_line_once R A B C k a x y e f p q = p.0.ends ∙ sym q.0.ends
 
-pub put_line_out : Last {B = List ℕ} put-line-reads.Learnt (λ k e. e.1.1.0.now)
-put_line_out k a x y e f p q = put_fixed p.0 q.0
+pub put_line_out : (R A B C : _) → Last {B = List ℕ} (put-line-reads.Learnt R A B C) (λ k e. e.1.1.0.now)
+put_line_out R A B C k a x y e f p q = put_fixed p.0 q.0
+
+-- ---- desk: it answers nothing
+
+pub serve_once : (R A B C : _) → One (serve-reads.Learnt R A B C)
+serve_once R A B C k a x y e f p q = refl
 
 -- ---- text: where it ends, then the buffer `out`
 

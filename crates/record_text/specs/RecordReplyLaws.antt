@@ -12,12 +12,11 @@ use Rattle.records.proofs.BackLaws.{at_most_longest}
 use Rattle.records.specs.declared.Record.{Record}
 use Rattle.records.specs.declared.Refusal.{Refusal}
 use Rattle.records.specs.declared.Refusal.TheVariants.{NoRoom, NoRecord}
-use Rattle.line_text.specs.Calls.{asked_of, asked_by, ReadAs}
-use Rattle.line_text.specs.Texts.{Put, fault_text, trimmed}
+use Rattle.line_text.specs.Calls.{request_of}
+use Rattle.line_text.specs.Texts.{Put}
 use Rattle.line_text.specs.TextLaws.{put_both}
 use Rattle.line_text.specs.declared.call.Call.{Call}
-use Rattle.line_text.specs.declared.call.Fault.{Fault}
-use Rattle.record_text.specs.RecordTexts.{hex_bytes, refused_text, refusal_of, recorded_text, record_of, recorded, record_reply}
+use Rattle.record_text.specs.RecordTexts.{hex_bytes, refused_text, refusal_of, recorded_text, record_of, record_for}
 
 -- ---- a record written, or refused
 
@@ -92,18 +91,5 @@ module _ (a : List Float) (c : Call) (h : c.count ≤ length a) where
   unfolding row_of call_row
   same_row front o e f = rw (e, f, length-take-le c.count a h, same_front c.count a h)
 
-  pub searched_put : (at : ℕ) (out : List ℕ) {front : List Float} {o : Outcome} {now : List ℕ} {r : ℕ} → front ≡ take 16 a → o ≡ answer (take c.count a) c.method c.tolerances c.limit → Put out at (recorded_text (record { kind = newest; coefficients = front; count = c.count; method = c.method; tolerances = c.tolerances; limit = c.limit; outcome = o })) now r → Put out at (recorded_text (record_of (take c.count a) c.method c.tolerances c.limit)) now r
+  pub searched_put : (at : ℕ) (out : List ℕ) {front : List Float} {o : Outcome} {now : List ℕ} {r : ℕ} → front ≡ take 16 a → o ≡ answer (take c.count a) c.method c.tolerances c.limit → Put out at (recorded_text (record { kind = newest; coefficients = front; count = c.count; method = c.method; tolerances = c.tolerances; limit = c.limit; outcome = o })) now r → Put out at (record_for (request_of c a)) now r
   searched_put at out {front} {o} e f g = rw (same_text (kept front o) (record_of (take c.count a) c.method c.tolerances c.limit) refl (same_row front o e f) f) at g
-
--- ---- what was read, and its reply
-
-module _ (s t : List ℕ) {filled : List Float} (a : List Float) {r : Result Call Fault} (k : ReadAs (asked_of t) filled a r) (w : t ≡ trimmed s) where
-  replies : recorded (asked_by r a) ≡ record_reply s
-  unfolding record_reply
-  replies = rw (k.is, w)
-
-  pub call_record : (before : List ℕ) (at : ℕ) {now : List ℕ} {p : ℕ} {c : Call} → r ≡ Ok c → Put before at (recorded_text (record_of (take c.count a) c.method c.tolerances c.limit)) now p → Put before at (record_reply s) now p
-  call_record before at e g = rw (← replies, e) g
-
-  pub wrong_record : (before : List ℕ) (at : ℕ) {now : List ℕ} {p : ℕ} {why : Fault} → r ≡ Err why → Put before at (fault_text why) now p → Put before at (record_reply s) now p
-  wrong_record before at e g = rw (← replies, e) g

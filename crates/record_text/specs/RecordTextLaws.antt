@@ -1,10 +1,10 @@
 -- Texts of records, put one part after the other.
-use Rattle.std.specs.Prelude.{ℕ, ◌+◌, ◌≤◌, ◌<◌, List, [], ◌∷◌, take, Result, Ok}
-use Rattle.std.proofs.Common.{sym, ◌∙◌, lt-ltb, le-ltb}
+use Rattle.std.specs.Prelude.{ℕ, ◌/◌, ◌%◌, ◌^◌, ◌≤◌, ◌<◌, List, [], ◌∷◌, take, Result, Ok}
+use Rattle.std.proofs.Common.{sym, ◌∙◌}
 use native.Mathlib.Omega.{arith}
 use Rattle.std.proofs.Math.Path.{◌≡◌}
 use Rattle.std.proofs.Math.ListN.{length}
-use Rattle.io.specs.Digits.{hex_digit_ascii}
+use Rattle.io.specs.Digits.{last_digits, IsDigitCount}
 use Rattle.simple_convergency.specs.declared.Tolerances.{Tolerances}
 use Rattle.roots.specs.Calls.{starts_of}
 use Rattle.roots.specs.Methods.{method_number}
@@ -15,16 +15,21 @@ use Rattle.records.specs.declared.Record.{Record}
 use Rattle.records.specs.declared.Reading.{Reading}
 use Rattle.records.specs.declared.Refusal.{Refusal}
 use Rattle.line_text.specs.Texts.{Put, bytes, decimal_field, numbers_text, text_of}
-use Rattle.line_text.specs.TextLaws.{put_both}
-use Rattle.record_text.specs.RecordTexts.{rule_text, call_text, record_text, refused_text}
+use Rattle.line_text.specs.TextLaws.{put_both, places}
+use Rattle.record_text.specs.RecordTexts.{pair, rule_text, call_text, record_text, refused_text}
 
 -- ---- bytes as digits
 
-pub glyph_low : (n : ℕ) → n < 10 → 48 + n ≡ hex_digit_ascii n
-glyph_low n h = rw (lt-ltb n 10 h)
+-- a byte as io writes it
+module _ {n k : ℕ} (h : n < 2 ^ 8) (f : IsDigitCount 16 2 n k) where
+  pub two_digits : k ≡ 2
+  two_digits = let p = places 16 2 2 (2 ^ 8) n k (omega arith) (omega arith) (omega arith) h f in let q = f.0 in omega arith
 
-pub glyph_high : (n : ℕ) → 10 ≤ n → 87 + n ≡ hex_digit_ascii n
-glyph_high n h = rw (le-ltb n 10 h)
+  pub pair_is : {b : ℕ} {t : List ℕ} → n ≡ b → t ≡ last_digits 16 k n → t ≡ pair b
+  pair_is {b} e t = t ∙ rw (two_digits, ← e, high)
+    where
+      high : n / 16 % 16 ≡ n / 16
+      high = omega arith
 
 -- ---- a record's line
 

@@ -1,5 +1,5 @@
 -- Records as text. Definitions only.
-use Rattle.std.specs.Prelude.{ℕ, ◌+◌, ◌*◌, ◌/◌, ◌%◌, Bool, true, false, cond, List, [], ◌∷◌, ◌++◌, length, take, flat_map, Float, Option, Some, None, Result, Ok, Err, unwrap_or}
+use Rattle.std.specs.Prelude.{ℕ, ◌+◌, ◌*◌, ◌/◌, ◌%◌, Bool, cond, List, [], ◌∷◌, ◌++◌, length, take, flat_map, Float, Option, Some, None, Result, Ok, Err, unwrap_or}
 use Rattle.io.specs.Digits.{hex_digit_ascii}
 use Rattle.numerical.specs.declared.Answer.{Answer}
 use Rattle.numerical.specs.declared.Answer.TheVariants.{ByValue, ByWidth, Refused}
@@ -12,8 +12,8 @@ use Rattle.records.specs.Records.{recordable, longest_record, newest, bytes_of, 
 use Rattle.records.specs.declared.Record.{Record}
 use Rattle.records.specs.declared.Reading.{Reading}
 use Rattle.records.specs.declared.Refusal.{Refusal}
-use Rattle.line_text.specs.Calls.{Asked, asked_of}
-use Rattle.line_text.specs.Texts.{bytes, decimal_field, numbers_text, text_of, fault_text, trimmed}
+use Rattle.line_text.specs.Calls.{Request}
+use Rattle.line_text.specs.Texts.{bytes, decimal_field, numbers_text, text_of, reply_to, line_reply}
 
 -- ---- how long
 
@@ -78,14 +78,12 @@ recorded_text r = cond (recordable r) (hex_bytes (bytes_of r) ++ (10 ∷ [])) (r
 abbrev pub record_of : List Float → Method → Tolerances → ℕ → Record
 record_of a method tolerances limit = record { kind = newest; coefficients = take most_coefficients a; count = length a; method = method; tolerances = tolerances; limit = limit; outcome = answer a method tolerances limit }
 
-abbrev pub recorded : Asked → List ℕ
-recorded (Ok r) = recorded_text (record_of r.coefficients r.method r.tolerances r.limit)
-recorded (Err why) = fault_text why
+-- the record tool replies the record
+abbrev pub record_for : Request → List ℕ
+record_for r = recorded_text (record_of r.coefficients r.method r.tolerances r.limit)
 
-unfoldable pub record_reply : List ℕ → List ℕ
-record_reply t = recorded (asked_of (trimmed t))
+abbrev pub record_reply : List ℕ → List ℕ
+record_reply t = reply_to record_for t
 
--- a line that outgrew its buffer has one reply, whatever it says
 abbrev pub line_record : Bool → List ℕ → List ℕ
-line_record true t = bytes "error too long\n"
-line_record false t = record_reply t
+line_record long t = line_reply record_for long t

@@ -1,18 +1,9 @@
 // Bytes as hexadecimal digits in lower case, two for each byte.
-ghost use Rattle.std.specs.Prelude.{◌≡◌, [], ◌∷◌, ◌+◌, ◌*◌, ◌≤◌, ◌<◌, length};
-ghost use Rattle.io.specs.Digits.{hex_digit_ascii};
+ghost use Rattle.std.specs.Prelude.{◌≡◌, ◌+◌, ◌*◌, ◌≤◌, length};
 ghost use Rattle.line_text.specs.Texts.{Put};
 ghost use Rattle.record_text.specs.RecordTexts.{pair, hex_bytes};
 
 use line_text::text;
-
-// Not char::from_digit, which answers an Option of a char.
-fn digit(n: u8) -> u8
-    requires { n < 16 }
-    ensures { result ≡ hex_digit_ascii n }
-{
-    if n < 10 { 48 + n } else { 87 + n }
-}
 
 // The two digits of a byte.
 fn put_pair(out: &mut [u8], at: usize, b: u8) -> usize
@@ -20,13 +11,13 @@ fn put_pair(out: &mut [u8], at: usize, b: u8) -> usize
     ensures put { Put out.old at (pair b) out.new result }
     ensures value { result ≡ at + 2 }
 {
-    let high = digit(b / 16);
-    let low = digit(b % 16);
-    let p = text::put_byte(out, at, high);
-    text::put_byte(out, p, low)
+    let mut digits = [0u8; 16];
+    let k = io::hex(u64::from(b), 2, &mut digits);
+    text::put(out, at, &digits[..k])
 }
 
-// The digits of all bytes, with nothing between them.
+// The digits of all bytes, with nothing between them. As line_text's `put_doubles`, a loop of a line: one for both would take
+// the inner function as a closure, with a clause on what it puts.
 pub fn put_bytes(out: &mut [u8], at: usize, s: &[u8]) -> usize
     requires { at + 2 * length s.now ≤ length out.old }
     ensures put { Put out.old at (hex_bytes s.now) out.new result }

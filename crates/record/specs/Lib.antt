@@ -1,2 +1,0 @@
--- what proofs cite
-pub mod GatherLaws
