@@ -27,29 +27,21 @@ fn taken<R: Replies>(line: &mut [u8], out: &mut [u8], s: State, b: u8) -> State
     requires waiting_in_bounds { s.waiting + R.LONGEST ≤ length out.old }
     ensures { Taken R.text line.old out.old s b line.new out.new result }
 {
-    let kept = s.kept;
-    let is_long = s.is_long;
-    let waiting = s.waiting;
     if b == b'\n' {
-        let end = reply::put_line::<R>(&line[..kept], is_long, out, waiting);
+        let end = reply::put_line::<R>(&line[..s.kept], s.is_long, out, s.waiting);
         return State {
             waiting: end,
             ..State::default()
         };
     }
-    if kept < line.len() {
-        line[kept] = b;
+    if s.kept < line.len() {
+        line[s.kept] = b;
         State {
-            kept: kept + 1,
-            is_long,
-            waiting,
+            kept: s.kept + 1,
+            ..s
         }
     } else {
-        State {
-            kept,
-            is_long: true,
-            waiting,
-        }
+        State { is_long: true, ..s }
     }
 }
 
