@@ -1,22 +1,19 @@
--- What a block's verdict says of the input; and a verdict's line put together.
+-- What a block's verdict says of the input; and a value of a verdict's line.
 use Rattle.std.specs.Prelude.{ℕ, ◌+◌, ◌-◌, Bool, true, false, cond, List, ◌++◌, ◌≡◌, refl, ltb, length, drop}
 use Rattle.std.specs.declared.ops.ControlFlow.{ControlFlow}
 use Rattle.std.specs.declared.ops.ControlFlow.TheVariants.{Break, Continue}
 use Rattle.std.proofs.Common.{arith, append-nil, ap, sym, ◌∙◌, subst, ltb-true, ltb-false}
 use Rattle.std.proofs.Math.Seq.{drop-length}
-use Rattle.records.specs.Records.{longest_record, refusal_number}
-use Rattle.records.specs.declared.Refusal.{Refusal}
+use Rattle.records.specs.Records.{longest_record}
 use Rattle.playback.specs.Playback.{played_from, played_back}
 use Rattle.playback.specs.AheadLaws.{shifted, Ahead}
 use Rattle.playback.proofs.AheadLaws.{played_shifted, ahead}
-use Rattle.playback.specs.declared.Difference.{Difference}
-use Rattle.playback.specs.declared.Field.{Field}
 use Rattle.playback.specs.declared.Playback.{Playback}
 use Rattle.playback.specs.declared.Playback.TheVariants.{Agree, Differs, Refused}
-use Rattle.line_text.specs.Texts.{Put, bytes, decimal_field, hex_field}
-use Rattle.line_text.specs.TextLaws.{put_both}
+use Rattle.playback.specs.declared.Field.{Field}
+use Rattle.line_text.specs.Texts.{Put, hex_field, decimal_field}
+use Rattle.replay.specs.VerdictTexts.{is_number, value_text}
 use Rattle.replay.specs.Courses.{Within, Room, Fits, course_of, Goes}
-use Rattle.replay.specs.VerdictTexts.{is_number, value_text, place_text, difference_text, verdict_text}
 use Rattle.replay.specs.declared.Reached.{Reached}
 use Rattle.replay.specs.declared.Rest.{Rest}
 
@@ -96,10 +93,3 @@ module _ (a : List ℕ) (at : ℕ) (field : Field) where
   pub value_decimal : {b : Bool} (n after : ℕ) {t : List ℕ} {r : ℕ} → b ≡ is_number field → b ≡ false → Put a at (decimal_field n after) t r → Put a at (value_text field n after) t r
   unfolding value_text
   value_decimal n after e f p = rw (← e, f) p
-
-module _ (a : List ℕ) (v : Playback) {b : List ℕ} {p : ℕ} where
-  pub differs_put : {n at : ℕ} {x : Difference} {c d : List ℕ} {q r : ℕ} → v ≡ Differs n at x → Put a 0 (bytes "differs ") b p → Put b p (place_text n at) c q → Put c q (difference_text x) d r → Put a 0 (verdict_text v) d r
-  differs_put e x y z = rw e (put_both x (put_both y z))
-
-  pub refused_put : {k : Refusal} {m n at : ℕ} {c d : List ℕ} {q r : ℕ} → v ≡ Refused k n at → m ≡ refusal_number k → Put a 0 (bytes "refused ") b p → Put b p (place_text n at) c q → Put c q (decimal_field m 10) d r → Put a 0 (verdict_text v) d r
-  refused_put e f x y z = rw e (put_both x (put_both y (rw f at z)))

@@ -158,8 +158,8 @@ impl Reached {
         }
     }
 
-    // What a block's verdict says where others may follow: if all its records agree the input goes on behind it, and a record that was
-    // refused with fewer bytes at hand than the longest has may be cut off there. Any other verdict is the input's.
+    // What a block's verdict says where others may follow: if all its records agree the input goes on behind it, and a record that
+    // was refused with fewer bytes at hand than the longest has may be cut off there. Any other verdict is the input's.
     fn course_of(self, verdict: Playback, long: usize) -> ControlFlow<Playback, Rest>
         requires { Within long verdict × Room long self }
         ensures { result ≡ course_of verdict long self }
@@ -205,7 +205,7 @@ impl Block {
     ghost use Rattle.std.specs.declared.ops.ControlFlow.TheVariants.{Break};
     ghost use Rattle.replay.specs.Courses.{Bounded, Follows, Goes, Room, block_length, most_bytes_in_all};
 
-    // Plays back the bytes up to an index, and moves to the front what may be cut off there.
+    // Plays back the bytes up to an index, and moves to the front what may be cut off there; or breaks off with the verdict.
     fn play(&mut self, end: usize) -> ControlFlow<Playback>
         requires { (end ≤ length self.old.bytes) × Room end self.old.reached }
         ensures follows { MatchControlFlow result
@@ -228,11 +228,11 @@ impl Block {
         self.reached.told(verdict)
     }
 
-    // Reads what comes behind the bytes that are kept, and plays it back; None where the read fails.
+    // Reads what comes behind the bytes that are kept, and plays it back. Breaks off with the verdict, at the input's end too; None
+    // where the read fails.
     fn read_on(&mut self, mut input: Stdin) -> Option<ControlFlow<Playback>>
         requires { (self.old.reached.offset ≤ most_bytes_in_all) × (self.old.reached.records ≤ most_bytes_in_all) }
-        ensures { IfSome result
-            (λ course. ForContinue course
+        ensures { IfSome result (λ course. ForContinue course
             (λ _. Bounded (self.old.reached.offset + self.old.kept + block_length) (self.old.reached.records + block_length) self.new)) }
     {
         let n = input.read(&mut self.bytes[self.kept..]).ok()?;

@@ -47,7 +47,7 @@ fn fill(block: &[u8], from: usize, least: usize, out: &mut [u8; 65536]) -> Pause
 }
 
 // Shows a block while `least` bytes are left of it, and tells up to where, if it goes on. Each time the lines have filled
-// their buffer they are written.
+// their buffer they are written. `least` is as many as the longest record has, or 1 at the input's end.
 fn shown(mut output: Stdout, block: &[u8], least: usize, out: &mut [u8; 65536]) -> Option<usize>
     requires { 1 ≤ least }
     ensures at_in_bounds { IfSome result (λ at. at ≤ length block.now) }
