@@ -190,7 +190,8 @@ impl Reached {
     }
 }
 
-// A block of the input: how many bytes at its front were read and not played, and what is reached before them.
+// A block of the input, in fixed memory with no heap: how many bytes at its front were read and not played, and what is reached
+// before them.
 #[derive(Drop)]
 struct Block {
     bytes: [u8; 65536],

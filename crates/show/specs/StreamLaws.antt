@@ -1,8 +1,9 @@
 -- The lines of a block, put one after the other.
-use Rattle.std.specs.Prelude.{ℕ, zero, suc, ◌+◌, ◌-◌, ◌≤◌, ◌<◌, Bool, true, false, List, [], ◌∷◌, ◌++◌, ◌≡◌, refl, ltb, length, take, drop, Option, Some, None, Result, Ok, Err}
+use Rattle.std.specs.Prelude.{ℕ, zero, suc, ◌+◌, ◌-◌, ◌≤◌, ◌<◌, Bool, true, false, List, [], ◌∷◌, ◌++◌, ◌≡◌, refl, ltb, length, drop, Option, Some, None, Result, Ok, Err}
 use Rattle.std.proofs.Common.{arith, append_assoc, append-nil, sym, ap, ◌∙◌, length-drop, length-append, drop-drop, ltb-true, ltb-false}
 use Rattle.std.proofs.lemmas.List.{drop-append-le, take_rest}
 use Rattle.records.specs.Records.{longest_record, reading_of}
+use Rattle.records.specs.ReadingLaws.{tail}
 use Rattle.records.specs.declared.Reading.{Reading}
 use Rattle.records.specs.declared.Refusal.{Refusal}
 use Rattle.records.specs.declared.Refusal.TheVariants.{NoRecord}
@@ -47,10 +48,6 @@ pub record Filling (block : List ℕ) (from : ℕ) (out now : List ℕ) (at wait
 
 fill_ends : {block : List ℕ} {from : ℕ} {out now : List ℕ} {at waiting : ℕ} → Filling block from out now at waiting → (least : ℕ) → from < at → waiting ≤ length out → Filled block from least out now (record { waiting = waiting; next = Some at })
 fill_ends g least h r = record { room = r; text = g.text; put = g.put; told = (h, g.within, g.on) }
-
--- the bytes from an index on, as the code lends them
-abbrev pub tail : List ℕ → ℕ → List ℕ
-tail block at = take (length block - at) (drop at block)
 
 -- the record at `at` was shown, or refused
 module _ {block : List ℕ} {from : ℕ} {out now : List ℕ} {at waiting : ℕ} (g : Filling block from out now at waiting) {taken : Option ℕ} (e : taken ≡ taken_by (reading_of (tail block at))) {after : List ℕ} {p : ℕ} (x : Put now waiting (reading_text (reading_of (tail block at))) after p) where

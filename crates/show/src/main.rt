@@ -63,7 +63,7 @@ fn shown(mut output: Stdout, block: &[u8], least: usize, out: &mut [u8; 65536]) 
     Some(at)
 }
 
-// What was read and is not shown yet stands at the front of the block; the lines wait in the other buffer.
+// What was read and is not shown yet stands at the front of the block; the lines wait in the other buffer. Fixed memory, no heap.
 #[derive(Drop)]
 struct Buffers {
     block: [u8; 65536],
