@@ -3,7 +3,7 @@
 
 #![tactic(auto)]
 
-ghost use Rattle.std.specs.Prelude.{◌+◌, ◌≤◌, ◌<◌, length, take, IfSome, IsTrue};
+ghost use Rattle.std.specs.Prelude.{◌+◌, ◌≤◌, ◌<◌, length, take, IfSome};
 ghost use Rattle.records.specs.Records.{longest_record};
 ghost use Rattle.show.specs.Streams.{Filled, Keeps};
 
@@ -73,27 +73,25 @@ struct Buffers {
 }
 
 impl Buffers {
-    // Shows the bytes up to an index, moves to the front what may be cut off there, and tells whether to go on. What is refused
-    // with as many bytes at hand as the longest record has is no record, whatever follows.
-    fn show(&mut self, output: Stdout, end: usize) -> bool
+    // Shows the bytes up to an index, and moves to the front what may be cut off there, if it goes on. What is refused with as
+    // many bytes at hand as the longest record has is no record, whatever follows.
+    fn show(&mut self, output: Stdout, end: usize) -> Option<()>
         requires { end ≤ length self.old.block }
-        ensures { IsTrue result → Keeps (take end self.old.block) self.new.block self.new.kept }
+        ensures { IfSome result (λ _. Keeps (take end self.old.block) self.new.block self.new.kept) }
     {
         let block = &self.block[..end];
-        let Some(at) = shown(output, block, Record::LONGEST, &mut self.out) else {
-            return false;
-        };
+        let at = shown(output, block, Record::LONGEST, &mut self.out)?;
         self.kept = blocks::move_to_front(&mut self.block, at, end);
-        true
+        Some(())
     }
 
-    // Reads what comes behind the bytes that are kept, shows its records, and tells whether to go on. A read that fails counts as
-    // the input's end.
-    fn read_block(&mut self, mut input: Stdin, output: Stdout) -> bool {
+    // Reads what comes behind the bytes that are kept, and shows its records; None where it is not to go on. A read that fails
+    // counts as the input's end.
+    fn read_block(&mut self, mut input: Stdin, output: Stdout) -> Option<()> {
         let n = input.read(&mut self.block[self.kept..]).unwrap_or(0);
         if n == 0 {
             let _ = shown(output, &self.block[..self.kept], 1, &mut self.out);
-            return false;
+            return None;
         }
         self.show(output, self.kept + n)
     }
@@ -108,7 +106,7 @@ fn main(rt: HostRuntime) {
         out: io::large_buffer(),
     };
     for _ in 0..u64::MAX {
-        if !buffers.read_block(rt.stdin(), rt.stdout()) {
+        if buffers.read_block(rt.stdin(), rt.stdout()).is_none() {
             break;
         }
     }

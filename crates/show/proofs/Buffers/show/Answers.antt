@@ -4,4 +4,4 @@ use Rattle.blocks.proofs.PartLaws.{part_kept}
 use Rattle.show.proofs.Buffers.show.Goals as goal
 
 pub returns : goal.returns
-returns c = λ e. (c.in-Some.at, grind (arith, common_steps), search part_kept)
+returns c = (c.in_ok-at.at, grind (arith, common_steps), search part_kept)
