@@ -1,2 +1,2 @@
 -- The lemmas of the proofs.
-mod PartLaws
+pub mod PartLaws

@@ -1,25 +1,19 @@
 -- How a playback goes on over the bytes, record by record.
 use Prim.Native.Nat.{ℕ, zero, suc, ◌+◌, ◌-◌, ◌≤◌, ◌<◌}
 use Rattle.std.proofs.Common.{add-one, arith, ◌∙◌, drop-drop, drop-cons, eq-eqb, ne_eqb}
-use Rattle.std.specs.Prelude.{cond, ◌≡◌, eqb, drop, get_or, Float, Option, None, Some, Result, Ok, Err}
-use mathlib.Core.List.{List, [], ◌∷◌, ◌++◌}
+use Rattle.std.specs.Prelude.{cond, ◌≡◌, eqb, drop, get_or, Option, None, Some, Result, Ok, Err}
+use mathlib.Core.List.{List, [], ◌∷◌}
 use Rattle.std.proofs.Math.Path.{refl, ap, sym}
 use Rattle.std.proofs.Math.ListN.{length, length-drop}
-use Rattle.std.specs.Float.{nan, binary64}
-use Rattle.std.specs.Float.Ieee.{to_bits}
-use Rattle.numerical.specs.Answers.{kind_of, numbers_of, padded, counts_of}
-use Rattle.numerical.specs.declared.Answer.{Answer}
-use Rattle.numerical.specs.declared.Answer.TheVariants.{ByValue, ByWidth, Refused}
-use Rattle.numerical.specs.declared.Outcome.{Outcome}
 use Rattle.simple_convergency.specs.Stop.{most_coefficients}
-use Rattle.records.specs.Records.{bits_of, reading_of}
+use Rattle.records.specs.Records.{reading_of}
 use Rattle.records.proofs.PrefixLaws.{bytes_hold, refused_eleven}
 use Rattle.records.specs.ReadingLaws.{tail}
 use Rattle.records.proofs.ReadingLaws.{tail_is, read_length, read_within, read_few}
 use Rattle.records.specs.declared.Reading.{Reading}
 use Rattle.records.specs.declared.Refusal.{Refusal}
 use Rattle.records.specs.declared.Refusal.TheVariants.{NoRecord}
-use Rattle.playback.specs.Playback.{in_order, field_at, field_number, fields_of, difference_in, first_difference, compared_in, Series, none, led, onward, series_within, series_in, settled, verdict_over, played_from, played_back}
+use Rattle.playback.specs.Playback.{in_order, field_at, field_number, difference_in, first_difference, compared_in, Series, none, led, onward, series_within, series_in, settled, verdict_over, played_from, played_back}
 use Rattle.playback.specs.declared.Field.TheVariants.{Kind}
 use Rattle.playback.specs.declared.Difference.{Difference}
 use Rattle.playback.specs.declared.Playback.{Playback}
@@ -40,26 +34,6 @@ numbered_in_order (suc (suc (suc (suc (suc (suc zero)))))) h = refl
 numbered_in_order (suc (suc (suc (suc (suc (suc (suc zero))))))) h = refl
 numbered_in_order (suc (suc (suc (suc (suc (suc (suc (suc n)))))))) h = absurd (omega arith)
 
--- the bits of an answer's numbers
-pub bits_are : (a : Answer) {x : List Float} {p q r : ℕ} → x ≡ padded (numbers_of a) → p ≡ to_bits binary64 (get_or x 0 nan) → q ≡ to_bits binary64 (get_or x 1 nan) → r ≡ to_bits binary64 (get_or x 2 nan) → p ∷ q ∷ r ∷ [] ≡ bits_of (padded (numbers_of a))
-unfolding bits_of
-bits_are a b e f g = rw (e, f, g, b) (three a)
-  where
-    three : (n : Answer) → to_bits binary64 (get_or (padded (numbers_of n)) 0 nan) ∷ to_bits binary64 (get_or (padded (numbers_of n)) 1 nan) ∷ to_bits binary64 (get_or (padded (numbers_of n)) 2 nan) ∷ [] ≡ bits_of (padded (numbers_of n))
-    three (ByValue root y) = refl
-    three (ByWidth root p q) = refl
-    three (Refused n) = refl
-
--- the eight fields of an outcome, from its parts
-pub fields_are : (o : Outcome) {k : ℕ} {b c : List ℕ} → k ≡ kind_of o.answer → b ≡ bits_of (padded (numbers_of o.answer)) → c ≡ counts_of o.progress → k ∷ get_or b 0 0 ∷ get_or b 1 0 ∷ get_or b 2 0 ∷ get_or c 0 0 ∷ get_or c 1 0 ∷ get_or c 2 0 ∷ get_or c 3 0 ∷ [] ≡ fields_of o
-unfolding fields_of bits_of
-fields_are o a b d = rw (a, b, d) (three o.answer)
-  where
-    three : (n : Answer) → kind_of o.answer ∷ get_or (bits_of (padded (numbers_of n))) 0 0 ∷ get_or (bits_of (padded (numbers_of n))) 1 0 ∷ get_or (bits_of (padded (numbers_of n))) 2 0 ∷ counts_of o.progress ≡ kind_of o.answer ∷ (bits_of (padded (numbers_of n)) ++ counts_of o.progress)
-    three (ByValue root y) = refl
-    three (ByWidth root p q) = refl
-    three (Refused n) = refl
-
 pub compare_starts : (recorded present : List ℕ) → Comparing recorded present 0
 unfolding first_difference
 compare_starts recorded present = record { count = omega arith; is = refl }
@@ -73,9 +47,6 @@ module _ (recorded present : List ℕ) (l : length recorded ≡ 8) (m : length p
 
   pub compare_differs : ¬ (get_or recorded i 0 ≡ get_or present i 0) → Some (record { field = get_or in_order i Kind; recorded = get_or recorded i 0; present = get_or present i 0 }) ≡ first_difference recorded present
   compare_differs e = sym (one_off ∙ rw (ne_eqb (get_or recorded i 0) (get_or present i 0) e) refl) ∙ g.is
-
-pub compare_ends : (recorded present : List ℕ) {i : ℕ} → Comparing recorded present i → 8 ≤ i → None ≡ first_difference recorded present
-compare_ends recorded present {i} g h = ap (λ (j : ℕ). difference_in (drop j in_order) (drop j recorded) (drop j present)) (let c = g.count in let z : 8 ≡ i = omega arith in z) ∙ g.is
 
 -- ---- the records in bytes
 

@@ -71,6 +71,7 @@ pub enum Playback {
 }
 
 // The bits of an answer's numbers; of one that it has not, those of +0.0.
+#[tactic(auto, unfolding(records::specs::Records::bits_of))]
 fn bits_of(answer: Answer) -> [u64; 3]
     ensures { result ≡ bits_of (padded (numbers_of answer)) }
 {
@@ -83,6 +84,7 @@ fn bits_of(answer: Answer) -> [u64; 3]
 }
 
 // What a record holds of an outcome, field by field.
+#[tactic(auto, unfolding(crate::specs::Playback::fields_of, records::specs::Records::bits_of))]
 fn fields_of(outcome: Outcome) -> [u64; 8]
     ensures { result ≡ fields_of outcome }
 {

@@ -4,16 +4,16 @@
 
 #![tactic(auto)]
 
-ghost use Rattle.std.specs.Prelude.{◌+◌, ◌^◌, ◌<◌, ◌≤◌, length, take, false, ◌≡◌, IfSome};
+ghost use Rattle.std.specs.Prelude.{◌+◌, ◌^◌, ◌<◌, ◌≤◌, length, ◌≡◌};
 ghost use Rattle.line_text.specs.Texts.{Put};
 ghost use Rattle.records.specs.Records.{longest_record};
-ghost use Rattle.replay.specs.Courses.{Bounded, Follows, Goes, Room, Within, block_length, course_of, may_go_on, most_bytes_in_all, reached_at};
 ghost use Rattle.replay.specs.VerdictTexts.{difference_text, is_number, longest_line, place_text, value_text, verdict_text};
 
 use line_text::text;
 use playback::{Difference, Field, Playback};
-use records::{Record, Refusal};
+use records::Record;
 use std::io::{Read, Stdin, Stdout, Write};
+use std::ops::ControlFlow;
 
 // How many records agree so far, and how many bytes they take.
 #[derive(Clone, Copy)]
@@ -22,30 +22,10 @@ struct Reached {
     offset: usize,
 }
 
-impl Reached {
-    // So many records and bytes further.
-    fn after(self, records: usize, offset: usize) -> Reached
-        requires { (self.records + records < 2 ^ 64) × (self.offset + offset < 2 ^ 64) }
-        ensures { result ≡ reached_at (self.records + records) (self.offset + offset) }
-    {
-        Reached {
-            records: self.records + records,
-            offset: self.offset + offset,
-        }
-    }
-}
-
-// Where a block leaves the playback: at the verdict, or open, with the bytes from an index on to be played with the next block.
+// What is left of a block that may be cut off: the bytes from an index on, and what is reached before them.
 #[derive(Clone, Copy)]
-enum Course {
-    Ended(Playback),
-    Open { at: usize, reached: Reached },
-}
-
-// A playback that goes on: how many bytes at the front of the buffer wait for the next block, and what is behind them.
-#[derive(Clone, Copy)]
-struct Turn {
-    kept: usize,
+struct Rest {
+    at: usize,
     reached: Reached,
 }
 
@@ -88,7 +68,7 @@ fn put_difference(out: &mut [u8], at: usize, difference: Difference) -> usize
     ensures upper_bound { result ≤ at + 63 }
 {
     let field = difference.field;
-    let p = text::put_decimal(out, at, field.number() as u64, b' ');
+    let p = text::put_decimal(out, at, u64::from(field.number()), b' ');
     let q = put_value(out, p, field, difference.recorded, b' ');
     put_value(out, q, field, difference.present, b'\n')
 }
@@ -119,86 +99,149 @@ fn put_verdict(out: &mut [u8], verdict: Playback) -> usize
         } => {
             let p = text::put(out, 0, b"refused ");
             let q = put_place(out, p, records, offset);
-            text::put_decimal(out, q, refusal.number() as u64, b'\n')
+            text::put_decimal(out, q, u64::from(refusal.number()), b'\n')
         }
     }
 }
 
 // ---- block by block
 
-// Whether a record that was refused may be cut off by the block's end: some bytes follow, and fewer than the longest record has are at hand.
-fn may_go_on(is_last: bool, left: usize) -> bool
-    ensures { result ≡ may_go_on is_last left }
-{
-    !is_last && left < Record::LONGEST
-}
+impl Reached {
+    ghost use Rattle.std.specs.Prelude.{false};
+    ghost use Rattle.playback.specs.AheadLaws.{shifted};
+    ghost use Rattle.replay.specs.Courses.{Fits, Goes, Room, Within, course_of, reached_at};
 
-// A block with a record that was refused at an index: it may be cut off there, or is none.
-fn after_refusal(
-    refusal: Refusal,
-    records: usize,
-    at: usize,
-    long: usize,
-    is_last: bool,
-    reached: Reached,
-) -> Course
-    requires { (records ≤ long) × (at < long) × Room long reached }
-    ensures { result ≡ course_of (Playback.Refused refusal records at) long is_last reached }
-{
-    let reached = reached.after(records, at);
-    if may_go_on(is_last, long - at) {
-        return Course::Open { at, reached };
-    }
-    let Reached { records, offset } = reached;
-    Course::Ended(Playback::Refused {
-        refusal,
-        records,
-        offset,
-    })
-}
-
-// What a block's verdict says of the input, behind what was reached before it. Where all its records agree, the input goes on behind
-// it or ends there.
-fn course_of(verdict: Playback, long: usize, is_last: bool, reached: Reached) -> Course
-    requires { Within long verdict × Room long reached }
-    ensures { result ≡ course_of verdict long is_last reached }
-{
-    match verdict {
-        Playback::Agree { records } => {
-            let reached = reached.after(records, long);
-            if is_last {
-                let records = reached.records;
-                Course::Ended(Playback::Agree { records })
-            } else {
-                Course::Open { at: long, reached }
-            }
+    // So many records and bytes further.
+    fn after(self, records: usize, offset: usize) -> Reached
+        requires { (self.records + records < 2 ^ 64) × (self.offset + offset < 2 ^ 64) }
+        ensures { result ≡ reached_at (self.records + records) (self.offset + offset) }
+    {
+        Reached {
+            records: self.records + records,
+            offset: self.offset + offset,
         }
-        Playback::Differs {
-            records,
-            offset,
-            difference,
-        } => {
-            let Reached { records, offset } = reached.after(records, offset);
-            Course::Ended(Playback::Differs {
+    }
+
+    // A verdict over the bytes behind, as one over all bytes.
+    fn told(self, verdict: Playback) -> Playback
+        requires { Fits verdict self }
+        ensures { result ≡ shifted self.records self.offset verdict }
+    {
+        match verdict {
+            Playback::Agree { records } => Playback::Agree {
+                records: self.records + records,
+            },
+            Playback::Differs {
                 records,
                 offset,
                 difference,
-            })
+            } => {
+                let Reached { records, offset } = self.after(records, offset);
+                Playback::Differs {
+                    records,
+                    offset,
+                    difference,
+                }
+            }
+            Playback::Refused {
+                refusal,
+                records,
+                offset,
+            } => {
+                let Reached { records, offset } = self.after(records, offset);
+                Playback::Refused {
+                    refusal,
+                    records,
+                    offset,
+                }
+            }
         }
-        Playback::Refused {
-            refusal,
-            records,
-            offset,
-        } => after_refusal(refusal, records, offset, long, is_last, reached),
+    }
+
+    // What a block's verdict says where others may follow: if all its records agree the input goes on behind it, and a record that
+    // was refused with fewer bytes at hand than the longest has may be cut off there. Any other verdict is the input's.
+    fn course_of(self, verdict: Playback, long: usize) -> ControlFlow<Playback, Rest>
+        requires { Within long verdict × Room long self }
+        ensures { result ≡ course_of verdict long self }
+    {
+        match verdict {
+            Playback::Agree { records } => ControlFlow::Continue(Rest {
+                at: long,
+                reached: self.after(records, long),
+            }),
+            Playback::Refused {
+                records,
+                offset,
+                ..
+            } if long - offset < Record::LONGEST => ControlFlow::Continue(Rest {
+                at: offset,
+                reached: self.after(records, offset),
+            }),
+            _ => ControlFlow::Break(self.told(verdict)),
+        }
+    }
+
+    // Plays back a block that others may follow.
+    fn played(self, block: &[u8]) -> ControlFlow<Playback, Rest>
+        requires { Room (length block.now) self }
+        ensures { Goes block.now false self result }
+    {
+        self.course_of(playback::play_back(block), block.len())
     }
 }
 
-// Plays a block back; no bytes follow the last one.
-fn played(block: &[u8], is_last: bool, reached: Reached) -> Course
-    requires { Room (length block.now) reached }
-    ensures { Goes block.now is_last reached result }
-{
-    course_of(playback::play_back(block), block.len(), is_last, reached)
+// A block of the input, in fixed memory with no heap: how many bytes at its front were read and not played, and what is reached
+// before them.
+#[derive(Drop)]
+struct Block {
+    bytes: [u8; 65536],
+    kept: usize,
+    reached: Reached,
+    ghost kept_le_longest_record: { kept ≤ longest_record },
+}
+
+impl Block {
+    ghost use Rattle.std.specs.Prelude.{IfSome, take, true, false};
+    ghost use Rattle.std.specs.ControlFlow.{ForContinue, MatchControlFlow};
+    ghost use Rattle.std.specs.declared.ops.ControlFlow.TheVariants.{Break};
+    ghost use Rattle.replay.specs.Courses.{Bounded, Follows, Goes, Room, block_length, most_bytes_in_all};
+
+    // Plays back the bytes up to an index, and moves to the front what may be cut off there; or breaks off with the verdict.
+    fn play(&mut self, end: usize) -> ControlFlow<Playback>
+        requires { (end ≤ length self.old.bytes) × Room end self.old.reached }
+        ensures follows { MatchControlFlow result
+            (λ _. Follows (take end self.old.bytes) self.old.reached self.new)
+            (λ verdict. Goes (take end self.old.bytes) false self.old.reached (Break verdict)) }
+        ensures bounded { ForContinue result (λ _. Bounded (self.old.reached.offset + end) (self.old.reached.records + end) self.new) }
+    {
+        let rest = self.reached.played(&self.bytes[..end])?;
+        self.kept = blocks::move_to_front(&mut self.bytes, rest.at, end);
+        self.reached = rest.reached;
+        ControlFlow::Continue(())
+    }
+
+    // At the input's end: no bytes follow those that are kept.
+    fn close(&self) -> Playback
+        requires { Room self.now.kept self.now.reached }
+        ensures { Goes (take self.now.kept self.now.bytes) true self.now.reached (Break result) }
+    {
+        let verdict = playback::play_back(&self.bytes[..self.kept]);
+        self.reached.told(verdict)
+    }
+
+    // Reads what comes behind the bytes that are kept, and plays it back. Breaks off with the verdict, at the input's end too; None
+    // where the read fails.
+    fn read_on(&mut self, mut input: Stdin) -> Option<ControlFlow<Playback>>
+        requires { (self.old.reached.offset ≤ most_bytes_in_all) × (self.old.reached.records ≤ most_bytes_in_all) }
+        ensures { IfSome result (λ course. ForContinue course
+            (λ _. Bounded (self.old.reached.offset + self.old.kept + block_length) (self.old.reached.records + block_length) self.new)) }
+    {
+        let n = input.read(&mut self.bytes[self.kept..]).ok()?;
+        if n == 0 {
+            return Some(ControlFlow::Break(self.close()));
+        }
+        Some(self.play(self.kept + n))
+    }
 }
 
 // Writes the verdict.
@@ -208,56 +251,14 @@ fn tell(mut output: Stdout, verdict: Playback) {
     output.write_all(&line[..n]).ok();
 }
 
-// Plays back the bytes up to an index, and moves what may be cut off there to the front; None where the verdict was told.
-fn next_turn(
-    output: Stdout,
-    block: &mut [u8],
-    end: usize,
-    is_last: bool,
-    reached: Reached,
-) -> Option<Turn>
-    requires { (end ≤ length block.old) × Room end reached }
-    ensures follows { IfSome result (Follows (take end block.old) is_last reached block.new) }
-    ensures bounded { IfSome result (Bounded (reached.offset + end) (reached.records + end)) }
-{
-    match played(&block[..end], is_last, reached) {
-        Course::Ended(verdict) => {
-            tell(output, verdict);
-            None
-        }
-        Course::Open { at, reached: next } => Some(Turn {
-            kept: blocks::move_to_front(block, at, end),
-            reached: next,
-        }),
-    }
-}
-
-// Reads as many bytes as have come and find room, and tells how many they are: 0 at the input's end, and none where the read failed.
-fn read_some(mut input: Stdin, room: &mut [u8]) -> Option<usize>
-    ensures { IfSome result (λ n. n ≤ length room.new) }
-{
-    input.read(room).ok()
-}
-
-// Reads what comes behind the bytes that are left, and plays it back.
-fn read_block(input: Stdin, output: Stdout, block: &mut [u8], turn: Turn) -> Option<Turn>
-    requires kept_le_longest_record { (turn.kept ≤ longest_record) × (block_length ≡ length block.old) }
-    requires offset_le_most_bytes { (turn.reached.offset ≤ most_bytes_in_all) × (turn.reached.records ≤ most_bytes_in_all) }
-    ensures { IfSome result (Bounded (turn.reached.offset + turn.kept + block_length) (turn.reached.records + block_length)) }
-{
-    let n = read_some(input, &mut block[turn.kept..])?;
-    next_turn(output, block, turn.kept + n, n == 0, turn.reached)
-}
-
 // A proved loop has to end, and nothing says that the input does: so it takes no more blocks than this, a number that no run uses
-// up, 2^46. With blocks of 2^16 bytes every sum stays below 2^64.
+// up, 2^46. With blocks of 2^16 bytes every sum stays below 2^64. No loop in common with the other programs: its contract could
+// say nothing of what the input holds.
 const MOST_BLOCKS: u64 = 70368744177664;
 
 fn main(rt: HostRuntime) {
-    let input = rt.stdin();
-    let output = rt.stdout();
-    let mut block = io::large_buffer();
-    let mut turn = Turn {
+    let mut block = Block {
+        bytes: io::large_buffer(),
         kept: 0,
         reached: Reached {
             records: 0,
@@ -265,9 +266,12 @@ fn main(rt: HostRuntime) {
         },
     };
     for _i in 0..MOST_BLOCKS {
-        let Some(next) = read_block(input, output, &mut block, turn) else {
+        let Some(course) = block.read_on(rt.stdin()) else {
             return;
         };
-        turn = next;
+        if let ControlFlow::Break(verdict) = course {
+            tell(rt.stdout(), verdict);
+            return;
+        }
     }
 }

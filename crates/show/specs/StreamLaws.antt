@@ -1,15 +1,16 @@
 -- The lines of a block, put one after the other.
-use Rattle.std.specs.Prelude.{ℕ, zero, suc, ◌+◌, ◌-◌, ◌≤◌, ◌<◌, Bool, true, false, List, [], ◌∷◌, ◌++◌, ◌≡◌, refl, ltb, length, take, drop, Option, Some, None, Result, Ok, Err}
-use Rattle.std.proofs.Common.{arith, append_assoc, append-nil, sym, ap, ◌∙◌, length-drop, length-append, take_all, drop-drop, ltb-true, ltb-false}
-use Rattle.std.proofs.lemmas.List.{drop-append-le}
+use Rattle.std.specs.Prelude.{ℕ, zero, suc, ◌+◌, ◌-◌, ◌≤◌, ◌<◌, Bool, true, false, List, [], ◌∷◌, ◌++◌, ◌≡◌, refl, ltb, length, drop, Option, Some, None, Result, Ok, Err}
+use Rattle.std.proofs.Common.{arith, append_assoc, append-nil, sym, ap, ◌∙◌, length-drop, length-append, drop-drop, ltb-true, ltb-false}
+use Rattle.std.proofs.lemmas.List.{drop-append-le, take_rest}
 use Rattle.records.specs.Records.{longest_record, reading_of}
+use Rattle.records.specs.ReadingLaws.{tail}
 use Rattle.records.specs.declared.Reading.{Reading}
 use Rattle.records.specs.declared.Refusal.{Refusal}
 use Rattle.records.specs.declared.Refusal.TheVariants.{NoRecord}
 use Rattle.records.proofs.PrefixLaws.{bytes_hold, refused_eleven, record_stays, refusal_stays}
 use Rattle.line_text.specs.Texts.{Put}
 use Rattle.line_text.specs.TextLaws.{put_both}
-use Rattle.record_text.specs.RecordTexts.{longest_line, record_text, refused_text, reading_text, taken_by}
+use Rattle.record_text.specs.RecordTexts.{record_text, refused_text, reading_text, taken_by}
 use Rattle.show.specs.Streams.{Shows, nothing, line, refused, Filled}
 
 -- ---- one record
@@ -48,20 +49,13 @@ pub record Filling (block : List ℕ) (from : ℕ) (out now : List ℕ) (at wait
 fill_ends : {block : List ℕ} {from : ℕ} {out now : List ℕ} {at waiting : ℕ} → Filling block from out now at waiting → (least : ℕ) → from < at → waiting ≤ length out → Filled block from least out now (record { waiting = waiting; next = Some at })
 fill_ends g least h r = record { room = r; text = g.text; put = g.put; told = (h, g.within, g.on) }
 
--- the bytes from an index on, as the code lends them
-abbrev pub tail : List ℕ → ℕ → List ℕ
-tail block at = take (length block - at) (drop at block)
-
-tail_is : (block : List ℕ) (at : ℕ) → tail block at ≡ drop at block
-tail_is block at = take_all (length block - at) (drop at block) (let m = length-drop at block in omega arith)
-
 -- the record at `at` was shown, or refused
 module _ {block : List ℕ} {from : ℕ} {out now : List ℕ} {at waiting : ℕ} (g : Filling block from out now at waiting) {taken : Option ℕ} (e : taken ≡ taken_by (reading_of (tail block at))) {after : List ℕ} {p : ℕ} (x : Put now waiting (reading_text (reading_of (tail block at))) after p) where
   e' : taken ≡ taken_by (reading_of (drop at block))
-  e' = rw (tail_is block at) at e
+  e' = rw (take_rest block at) at e
 
   x' : Put now waiting (reading_text (reading_of (drop at block))) after p
-  x' = rw (tail_is block at) at x
+  x' = rw (take_rest block at) at x
 
   left : length (drop at block) ≡ length block - at
   left = length-drop at block
@@ -93,13 +87,13 @@ module _ {block : List ℕ} {from : ℕ} {out now : List ℕ} {at waiting : ℕ}
         }
 
     -- the buffer is full
-    pub fill_full : (least : ℕ) → p ≤ waiting + longest_line → waiting + longest_line ≤ length now → length now ≡ length out → Filled block from least out after (record { waiting = p; next = Some (at + n) })
-    fill_full least j k m = fill_ends fill_on least (let b = g.begun in let s = taken_some in omega arith) (omega arith)
+    pub fill_full : (least : ℕ) → p ≤ length out → Filled block from least out after (record { waiting = p; next = Some (at + n) })
+    fill_full least h = fill_ends fill_on least (let b = g.begun in let s = taken_some in omega arith) h
 
-  pub fill_wrong : taken ≡ None → (least : ℕ) → 1 ≤ least → least ≤ length block - at → p ≤ waiting + longest_line → waiting + longest_line ≤ length now → length now ≡ length out → Filled block from least out after (record { waiting = p; next = None })
-  fill_wrong q least a b j k m =
+  pub fill_wrong : taken ≡ None → (least : ℕ) → 1 ≤ least → least ≤ length block - at → p ≤ length out → Filled block from least out after (record { waiting = p; next = None })
+  fill_wrong q least a b h =
       record {
-        room = omega arith;
+        room = h;
         text = g.text ++ refused_text 11;
         put = put_both g.put (rw is_refused at x');
         told = λ u f. g.on u (refused_text 11) (refused (some u) (stays u f));

@@ -1,5 +1,5 @@
 -- The lines of an input of records. Definitions only.
-use Rattle.std.specs.Prelude.{ℕ, ◌≤◌, ◌<◌, List, [], ◌++◌, ◌≡◌, length, drop, Option, Some, None, Ok, Err}
+use Rattle.std.specs.Prelude.{ℕ, ◌+◌, ◌≤◌, ◌<◌, List, [], ◌++◌, ◌≡◌, length, take, drop, Option, Some, None, Ok, Err}
 use Rattle.records.specs.Records.{longest_record, reading_of}
 use Rattle.records.specs.declared.Reading.{Reading}
 use Rattle.records.specs.declared.Refusal.TheVariants.{NoRecord}
@@ -25,3 +25,7 @@ pub record Filled (block : List ℕ) (from least : ℕ) (out now : List ℕ) (r 
   pub text : List ℕ
   pub put : Put out 0 text now r.waiting
   pub told : Told block from least text r.next
+
+-- so many bytes are kept at the front, the last ones of those given
+abbrev pub Keeps : List ℕ → List ℕ → ℕ → Type 0
+Keeps given block kept = (at : ℕ) × (at + kept ≡ length given) × (take kept block ≡ drop at given)

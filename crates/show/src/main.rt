@@ -3,10 +3,9 @@
 
 #![tactic(auto)]
 
-ghost use Rattle.std.specs.Prelude.{◌≡◌, ◌+◌, ◌-◌, ◌≤◌, ◌<◌, length, take, drop, IfSome};
-ghost use Rattle.record_text.specs.RecordTexts.{longest_line};
+ghost use Rattle.std.specs.Prelude.{◌+◌, ◌≤◌, ◌<◌, length, take, IfSome};
 ghost use Rattle.records.specs.Records.{longest_record};
-ghost use Rattle.show.specs.Streams.{Filled};
+ghost use Rattle.show.specs.Streams.{Filled, Keeps};
 
 use record_text::record::LONGEST_LINE;
 use records::Record;
@@ -20,12 +19,13 @@ struct Pause {
 }
 
 // Puts the lines of records from an index on, while `least` bytes are left and another line finds room.
-fn fill(block: &[u8], from: usize, least: usize, out: &mut [u8]) -> Pause
-    requires { (1 ≤ least) × (from + least ≤ length block.now) × (longest_line ≤ length out.old) }
+fn fill(block: &[u8], from: usize, least: usize, out: &mut [u8; 65536]) -> Pause
+    requires { (1 ≤ least) × (from + least ≤ length block.now) }
     ensures { Filled block.now from least out.old out.new result }
 {
     let mut at = from;
     let mut waiting = 0;
+    // Not a `for`: a turn goes on by as many bytes as a record takes.
     while least <= block.len() - at {
         let shown = record_text::record::put_first(out, waiting, &block[at..]);
         waiting = shown.end;
@@ -47,13 +47,14 @@ fn fill(block: &[u8], from: usize, least: usize, out: &mut [u8]) -> Pause
 }
 
 // Shows a block while `least` bytes are left of it, and tells up to where, if it goes on. Each time the lines have filled
-// their buffer they are written.
-fn shown(mut output: Stdout, block: &[u8], least: usize, out: &mut [u8]) -> Option<usize>
-    requires { (1 ≤ least) × (longest_line ≤ length out.old) }
+// their buffer they are written. `least` is as many as the longest record has, or 1 at the input's end.
+fn shown(mut output: Stdout, block: &[u8], least: usize, out: &mut [u8; 65536]) -> Option<usize>
+    requires { 1 ≤ least }
     ensures at_in_bounds { IfSome result (λ at. at ≤ length block.now) }
     ensures block_len_bound { IfSome result (λ at. length block.now < at + least) }
 {
     let mut at = 0;
+    // Not a `for`: a turn goes on by as many bytes as the records take whose lines find room.
     while least <= block.len() - at {
         let p = fill(block, at, least, out);
         output.write_all(&out[..p.waiting]).ok()?;
@@ -62,54 +63,51 @@ fn shown(mut output: Stdout, block: &[u8], least: usize, out: &mut [u8]) -> Opti
     Some(at)
 }
 
-// Moves the bytes from one index up to another to the front, and tells how many they are.
-fn moved(block: &mut [u8], from: usize, to: usize) -> usize
-    requires { (from ≤ to) × (to ≤ length block.old) }
-    ensures value { result ≡ to - from }
-    ensures block_after { take result block.new ≡ take result (drop from block.old) }
-{
-    block.copy_within(from..to, 0);
-    to - from
-}
-
-// Reads as many bytes as have come and find room, and tells how many they are. A read that fails counts as the input's end.
-fn read_some(mut input: Stdin, room: &mut [u8]) -> usize
-    ensures { result ≤ length room.new }
-{
-    input.read(room).unwrap_or(0)
-}
-
-// Reads what comes behind the bytes that are left, shows its records, and tells how many bytes at the front of the buffer are
-// left then, if to go on. What is refused with as many bytes at hand as the longest record has is no record, whatever follows.
-fn read_block(
-    input: Stdin,
-    output: Stdout,
-    block: &mut [u8],
+// What was read and is not shown yet stands at the front of the block; the lines wait in the other buffer. Fixed memory, no heap.
+#[derive(Drop)]
+struct Buffers {
+    block: [u8; 65536],
     kept: usize,
-    out: &mut [u8],
-) -> Option<usize>
-    requires { (kept ≤ longest_record) × (longest_record < length block.old) × (longest_line ≤ length out.old) }
-    ensures { IfSome result (λ n. n ≤ longest_record) }
-{
-    let n = read_some(input, &mut block[kept..]);
-    if n == 0 {
-        let _ = shown(output, &block[..kept], 1, out);
-        return None;
+    out: [u8; 65536],
+    ghost kept_le_longest_record: { kept ≤ longest_record },
+}
+
+impl Buffers {
+    // Shows the bytes up to an index, and moves to the front what may be cut off there, if it goes on. What is refused with as
+    // many bytes at hand as the longest record has is no record, whatever follows.
+    fn show(&mut self, output: Stdout, end: usize) -> Option<()>
+        requires { end ≤ length self.old.block }
+        ensures { IfSome result (λ _. Keeps (take end self.old.block) self.new.block self.new.kept) }
+    {
+        let block = &self.block[..end];
+        let at = shown(output, block, Record::LONGEST, &mut self.out)?;
+        self.kept = blocks::move_to_front(&mut self.block, at, end);
+        Some(())
     }
-    let end = kept + n;
-    let at = shown(output, &block[..end], Record::LONGEST, out)?;
-    Some(moved(block, at, end))
+
+    // Reads what comes behind the bytes that are kept, and shows its records; None where it is not to go on. A read that fails
+    // counts as the input's end.
+    fn read_block(&mut self, mut input: Stdin, output: Stdout) -> Option<()> {
+        let n = input.read(&mut self.block[self.kept..]).unwrap_or(0);
+        if n == 0 {
+            let _ = shown(output, &self.block[..self.kept], 1, &mut self.out);
+            return None;
+        }
+        self.show(output, self.kept + n)
+    }
 }
 
 // A proved loop has to end, and nothing says that the input does: so the turns are counted, up to a number that no run reaches.
+// No loop in common with the other programs: its contract could say nothing of what the input holds.
 fn main(rt: HostRuntime) {
-    let mut block = io::large_buffer();
-    let mut out = io::large_buffer();
-    let mut kept = 0;
+    let mut buffers = Buffers {
+        block: io::large_buffer(),
+        kept: 0,
+        out: io::large_buffer(),
+    };
     for _ in 0..u64::MAX {
-        let Some(left) = read_block(rt.stdin(), rt.stdout(), &mut block, kept, &mut out) else {
+        if buffers.read_block(rt.stdin(), rt.stdout()).is_none() {
             break;
-        };
-        kept = left;
+        }
     }
 }

@@ -1,4 +1,4 @@
-use Rattle.playback.proofs.PlaybackLaws.{compare_starts, compare_on, compare_differs, compare_ends}
+use Rattle.playback.proofs.PlaybackLaws.{compare_starts, compare_on, compare_differs}
 use Rattle.playback.proofs.first_difference.Goals as goal
 
 pub loop-i-init : goal.loop-i-init
@@ -9,6 +9,3 @@ returns-then-recorded-i c = search compare_differs
 
 pub loop-i-preserved : goal.loop-i-preserved
 loop-i-preserved c = search compare_on
-
-pub returns : goal.returns
-returns c = search compare_ends

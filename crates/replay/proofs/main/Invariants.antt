@@ -1,9 +1,6 @@
-use mathlib.Core.Path.{◌≡◌}
 use Prim.Native.Nat.{◌+◌, ◌*◌, ◌≤◌}
-use lib.ListN.{length}
-use Rattle.records.specs.Records.{longest_record}
 use Rattle.replay.specs.Courses.{block_length}
 use Rattle.replay.proofs.main.Given as goal
 
 abbrev pub invariant-loop-i : goal.invariant-loop-i
-invariant-loop-i l = (block_length ≡ length l.block) × (l.turn.kept ≤ longest_record) × (l.turn.reached.offset + l.turn.kept ≤ l._i * block_length) × (l.turn.reached.records ≤ l._i * block_length)
+invariant-loop-i l = (l.block.reached.offset + l.block.kept ≤ l._i * block_length) × (l.block.reached.records ≤ l._i * block_length)

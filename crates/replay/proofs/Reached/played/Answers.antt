@@ -1,6 +1,6 @@
-use Rattle.replay.proofs.CourseLaws.{played_within, course_goes}
 use borrow.Author.Rules.{rules}
-use Rattle.replay.proofs.played.Goals as goal
+use Rattle.replay.proofs.CourseLaws.{played_within, course_goes}
+use Rattle.replay.proofs.Reached.played.Goals as goal
 
 pub course_of-requires : goal.course_of-requires
 course_of-requires c = (search played_within, search rules)
