@@ -2,7 +2,7 @@
 
 #![tactic(auto)]
 
-ghost use Rattle.std.specs.Prelude.{◌+◌, ◌<◌, ◌≤◌, length, ◌≡◌};
+ghost use Rattle.std.specs.Prelude.{◌+◌, ◌<◌, ◌≤◌, drop, length, ◌++◌, ◌≡◌};
 ghost use Rattle.rows.specs.Groups.{Took, groups, tenth_at};
 ghost use Rattle.rows.specs.Puts.{Put};
 
@@ -45,10 +45,11 @@ pub fn take(s: &[u8], at: usize) -> Option<Taken<u64>>
     let mut w = 128u64;
     for i in 1..9 {
         let b = u64::from(*s.get(at + i)?);
-        if b == 0 {
-            return None;
-        }
+        // a last group of 0 is needless
         if b < 128 {
+            if b == 0 {
+                return None;
+            }
             return Some(Taken {
                 value: v + w * b,
                 next: at + i + 1,
@@ -75,4 +76,14 @@ pub fn put(n: u64, out: &mut [u8], at: usize) -> usize
     }
     out[p] = m as u8;
     p + 1
+}
+
+// Copies t to the start of out. A loop, since of `copy_from_slice` the archive, which calls no memcpy, makes a step for each byte.
+pub fn copy<T: Copy>(t: &[T], out: &mut [T])
+    requires { length t.now ≤ length out.old }
+    ensures { out.new ≡ t.now ++ drop (length t.now) out.old }
+{
+    for (i, x) in t.iter().enumerate() {
+        out[i] = *x;
+    }
 }
