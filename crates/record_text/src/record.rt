@@ -8,7 +8,6 @@ ghost use Rattle.record_text.specs.RecordTexts.{longest_line, rule_text, call_te
 use line_text::text;
 use records::Record;
 use roots::Method;
-use simple_convergency::Tolerances;
 
 // Where a record's line ends, and how many bytes the record took, if it was not refused.
 #[derive(Clone, Copy)]
@@ -20,17 +19,18 @@ pub struct Shown {
 // No line of a record is longer.
 pub const LONGEST_LINE: usize = 601;
 
-// The starts, the tolerances and the limit.
-fn put_rule(out: &mut [u8], at: usize, method: Method, tolerances: Tolerances, limit: u64) -> usize
+// The starts, the tolerances and the limit. Not one with the rule of records: a line has both tolerances and no bytes, in every kind.
+fn put_rule(out: &mut [u8], at: usize, content: &Record) -> usize
     requires { at + 89 ≤ length out.old }
-    ensures put { Put out.old at (rule_text method tolerances limit) out.new result }
+    ensures put { Put out.old at (rule_text content.now.method content.now.tolerances content.now.limit) out.new result }
     ensures upper_bound { result ≤ at + 89 }
 {
-    let starts = method.starts();
-    let count = Method::start_count(method.number());
+    let starts = content.method.starts();
+    let count = Method::start_count(content.method.number());
+    let tolerances = content.tolerances;
     let p = text::put_doubles(out, at, &starts[..count]);
     let q = text::put_doubles(out, p, &[tolerances.value, tolerances.point]);
-    text::put_decimal(out, q, limit, b' ')
+    text::put_decimal(out, q, content.limit, b' ')
 }
 
 // The call: its method's number, its coefficients with their count, and the rest of it.
@@ -43,7 +43,7 @@ fn put_call(out: &mut [u8], at: usize, content: &Record) -> usize
     let q = text::put_decimal(out, p, content.count as u64, b' ');
     let own = content.own_count();
     let t = text::put_doubles(out, q, &content.coefficients[..own]);
-    put_rule(out, t, content.method, content.tolerances, content.limit)
+    put_rule(out, t, content)
 }
 
 // A record of so many bytes: the length, the kind, the call and the answer.

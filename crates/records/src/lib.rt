@@ -72,7 +72,8 @@ pub struct Reading {
 // The bytes and an index are passed on, and no reader that moves: so a part is a function of them, and its contract speaks of
 // no state before and after.
 
-// The kind, and the number of the method.
+// The kind, and the number of the method. No enum for the kind: `Record.kind` and `Method::numbered` take every number, and it
+// would be turned back into its number where a record is made of it.
 #[derive(Clone, Copy)]
 struct Head {
     kind: u64,
@@ -87,7 +88,7 @@ struct Rule {
     limit: u64,
 }
 
-// A call: of the coefficients the first `count` were read, and zeros stand behind them.
+// A call: of the coefficients the first `count` were read, and zeros stand behind them, in fixed memory with no heap.
 #[derive(Clone, Copy)]
 struct Call {
     kind: u64,
@@ -345,7 +346,7 @@ pub fn read(s: &[u8]) -> Result<Reading, Refusal>
 // ---- writing: each part is put behind the one before
 
 // The bytes of a record while they are made, of which the first `length` are put: an array with its length, in fixed memory
-// with no heap, with room for 33 numbers of ten bytes.
+// with no heap, with room for 33 numbers of ten bytes. Each part asks for its own room, and no invariant does: they differ in it.
 #[derive(Drop)]
 struct Draft {
     bytes: [u8; 330],
@@ -361,6 +362,7 @@ impl Draft {
         self.length = rows::put(n, &mut self.bytes, self.length);
     }
 
+    // Numbers, one behind the other.
     fn put_numbers(&mut self, row: &[u64])
         requires { self.old.length + 10 * length row.now ≤ 330 }
         ensures { Puts (10 * length row.now) row.now self.old self.new }
@@ -403,7 +405,7 @@ impl Draft {
         self.put_doubles(&[tolerances.value, tolerances.point]);
     }
 
-    // The starts, the tolerances and the limit.
+    // The starts, the tolerances and the limit. Not one with that of record_text: in kind 1 a row has one tolerance.
     fn put_rule(&mut self, content: &Record)
         requires { self.old.length + 50 ≤ 330 }
         ensures { Puts 50 (rule_row content.now.kind content.now.method content.now.tolerances content.now.limit) self.old self.new }

@@ -131,6 +131,3 @@ number_near a at n x = let e = x.ends in let l = ten_at_most n in omega arith
 
 pub row_both : {a b c : List ℕ} {at p r : ℕ} {l m : List ℕ} → PutRow a at l b p → PutRow b p m c r → PutRow a at (l ++ m) c r
 row_both {l = l} {m = m} x y = record { put = rw (spell_append l m) (put_both x.put y.put); small = small_append l m x.small y.small }
-
-pub row_length : {a b : List ℕ} {at p : ℕ} {l : List ℕ} → PutRow a at l b p → length b ≡ length a
-row_length x = put_length x.put

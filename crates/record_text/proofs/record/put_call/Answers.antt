@@ -1,9 +1,7 @@
 use borrow.Author.Rules.{rules}
-use Rattle.records.proofs.WriteLaws.{own_are}
 use Rattle.record_text.specs.RecordTextLaws.{call_put}
 use Rattle.record_text.proofs.record.put_call.Goals as goal
 
 pub returns-clause-put : goal.returns-clause-put
 returns-clause-put c =
-    let own = own_are c.args.content.now c.own_count-own.ensures (search rules) in
-    call_put _ _ _ (search rules) c.put_decimal-p.ensures.put c.put_decimal-q.ensures.put (rw own at c.put_doubles-t.ensures.put) c.put_rule.ensures.put
+    call_put _ _ c.args.content.now (search rules) c.own_count-own.ensures (search rules) c.put_decimal-p.ensures.put c.put_decimal-q.ensures.put c.put_doubles-t.ensures.put c.put_rule.ensures.put

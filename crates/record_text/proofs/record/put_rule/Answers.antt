@@ -1,5 +1,5 @@
 use Rattle.std.proofs.Common.{sym, length-take-le}
-use Rattle.roots.proofs.CallLaws.{within_two, own_starts}
+use Rattle.roots.proofs.CallLaws.{within_two}
 use Rattle.record_text.specs.RecordTextLaws.{rule_put}
 use Rattle.record_text.proofs.record.put_rule.Goals as goal
 
@@ -11,5 +11,4 @@ slice_bounds-put_doubles-end c = sym (length-take-le _ _ (within_two _ _ c.start
 
 pub returns-clause-put : goal.returns-clause-put
 returns-clause-put c =
-    let own = own_starts _ c.number.ensures c.start_count-count.ensures c.starts-starts.ensures in
-    rule_put _ _ _ _ _ (rw own at c.put_doubles-p.ensures.put) c.put_doubles-q.ensures.put c.put_decimal.ensures.put
+    rule_put _ _ _ _ _ c.number.ensures c.start_count-count.ensures c.starts-starts.ensures c.put_doubles-p.ensures.put c.put_doubles-q.ensures.put c.put_decimal.ensures.put
