@@ -6,7 +6,7 @@ use Rattle.std.proofs.Math.Path.{◌≡◌}
 use Rattle.std.proofs.Math.ListN.{length}
 use Rattle.io.specs.Digits.{hex_digit_ascii}
 use Rattle.simple_convergency.specs.declared.Tolerances.{Tolerances}
-use Rattle.roots.specs.Calls.{two_starts}
+use Rattle.roots.specs.Calls.{starts_of, two_starts}
 use Rattle.roots.specs.Methods.{method_number, start_count}
 use Rattle.roots.proofs.CallLaws.{own_starts}
 use Rattle.roots.specs.declared.Method.{Method}
@@ -35,16 +35,22 @@ unfolding refused_text
 refused_put a at n x y = put_both x y
 
 module _ (a : List ℕ) (at : ℕ) {b : List ℕ} {p : ℕ} where
-  module _ {c : List ℕ} {q : ℕ} {d : List ℕ} {r : ℕ} where
-    pub rule_put :
-        (m : Method) (t : Tolerances) (limit : ℕ) {number count : ℕ} {two : List Float} → number ≡ method_number m → count ≡ start_count number → two ≡ two_starts m → Put a at (numbers_text (take count two)) b p → Put b p (numbers_text (t.value ∷ t.point ∷ [])) c q → Put c q (decimal_field limit 32) d r → Put a at (rule_text m t limit) d r
-    unfolding rule_text
-    rule_put m t limit e f g x y z = put_both (put_both (rw (own_starts m e f g) at x) y) z
+  -- a method's own starts, of its two
+  pub starts_put : (m : Method) {number count : ℕ} {two : List Float} → number ≡ method_number m → count ≡ start_count number → two ≡ two_starts m → Put a at (numbers_text (take count two)) b p → Put a at (numbers_text (starts_of m)) b p
+  starts_put m e f g x = rw (own_starts m e f g) at x
 
-    pub call_put :
-        (k : Record) {n own : ℕ} {e : List ℕ} {u : ℕ} → n ≡ method_number k.method → own ≡ own_count k → length k.coefficients ≡ 16 → Put a at (decimal_field n 32) b p → Put b p (decimal_field k.count 32) c q → Put c q (numbers_text (take own k.coefficients)) d r → Put d r (rule_text k.method k.tolerances k.limit) e u → Put a at (call_text k) e u
+  -- a record's own coefficients, of its 16
+  pub own_put : (k : Record) {own : ℕ} → own ≡ own_count k → length k.coefficients ≡ 16 → Put a at (numbers_text (take own k.coefficients)) b p → Put a at (numbers_text (take k.count k.coefficients)) b p
+  own_put k e l x = rw (own_are k e l) at x
+
+  module _ {c : List ℕ} {q : ℕ} {d : List ℕ} {r : ℕ} where
+    pub rule_put : (m : Method) (t : Tolerances) (limit : ℕ) → Put a at (numbers_text (starts_of m)) b p → Put b p (numbers_text (t.value ∷ t.point ∷ [])) c q → Put c q (decimal_field limit 32) d r → Put a at (rule_text m t limit) d r
+    unfolding rule_text
+    rule_put m t limit x y z = put_both (put_both x y) z
+
+    pub call_put : (k : Record) {n : ℕ} {e : List ℕ} {u : ℕ} → n ≡ method_number k.method → Put a at (decimal_field n 32) b p → Put b p (decimal_field k.count 32) c q → Put c q (numbers_text (take k.count k.coefficients)) d r → Put d r (rule_text k.method k.tolerances k.limit) e u → Put a at (call_text k) e u
     unfolding call_text
-    call_put k h f l x y z w = put_both (put_both (put_both (rw h at x) y) (rw (own_are k f l) at z)) w
+    call_put k h x y z w = put_both (put_both (put_both (rw h at x) y) z) w
 
     pub record_put :
         (n : ℕ) (k : Record) {e : List ℕ} {u : ℕ} → Put a at (decimal_field n 32) b p → Put b p (decimal_field k.kind 32) c q → Put c q (call_text k) d r → Put d r (text_of k.outcome) e u →
