@@ -20,11 +20,14 @@ fn take_tenth(s: &[u8], p: usize, v: u64, w: u64) -> Option<Taken<u64>>
     requires { v + w < 18446744073709551616 }
     ensures { result ≡ tenth_at s.now p v w }
 {
-    let last = *s.get(p)?;
-    (last == 1).then_some(Taken {
-        value: v + w,
-        next: p + 1,
-    })
+    if *s.get(p)? == 1 {
+        Some(Taken {
+            value: v + w,
+            next: p + 1,
+        })
+    } else {
+        None
+    }
 }
 
 // The number at an index: the first group, up to eight more of seven bits, and a tenth of one bit, since ten groups hold
