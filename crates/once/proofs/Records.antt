@@ -2,6 +2,7 @@
 use Rattle.std.specs.Prelude.{ℕ, List}
 use Rattle.std.proofs.Common.{sym, ◌∙◌}
 use Rattle.records.proofs.Refusal.number.Reads as number-reads
+use Rattle.records.proofs.Record.own_count.Reads as own-count-reads
 use Rattle.records.proofs.read.Reads as read-reads
 use Rattle.records.proofs.write.Reads as write-reads
 use Rattle.once.specs.One.{One, Last}
@@ -9,6 +10,9 @@ use Rattle.once.proofs.Fixed.{fixed}
 
 pub number_once : One number-reads.Learnt
 number_once = fixed _ _
+
+pub own_count_once : One own-count-reads.Learnt
+own_count_once = fixed _ _
 
 pub read_once : One read-reads.Learnt
 read_once = fixed _ _

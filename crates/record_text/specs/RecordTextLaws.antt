@@ -1,15 +1,17 @@
 -- Texts of records, put one part after the other.
-use Rattle.std.specs.Prelude.{ℕ, ◌/◌, ◌%◌, ◌^◌, ◌≤◌, ◌<◌, List, [], ◌∷◌, take, Result, Ok}
-use Rattle.std.proofs.Common.{sym, ◌∙◌}
+use Rattle.std.specs.Prelude.{ℕ, ◌+◌, ◌/◌, ◌%◌, ◌^◌, ◌≤◌, ◌<◌, List, [], ◌∷◌, take, Result, Ok, Float}
+use Rattle.std.proofs.Common.{sym, ◌∙◌, lt-ltb, le-ltb}
 use native.Mathlib.Omega.{arith}
 use Rattle.std.proofs.Math.Path.{◌≡◌}
 use Rattle.std.proofs.Math.ListN.{length}
 use Rattle.io.specs.Digits.{last_digits, IsDigitCount}
 use Rattle.simple_convergency.specs.declared.Tolerances.{Tolerances}
-use Rattle.roots.specs.Calls.{starts_of}
-use Rattle.roots.specs.Methods.{method_number}
+use Rattle.roots.specs.Calls.{starts_of, two_starts}
+use Rattle.roots.specs.Methods.{method_number, start_count}
+use Rattle.roots.proofs.CallLaws.{own_starts}
 use Rattle.roots.specs.declared.Method.{Method}
-use Rattle.records.specs.Records.{reading_of}
+use Rattle.records.specs.Records.{own_count, reading_of}
+use Rattle.records.proofs.WriteLaws.{own_are}
 use Rattle.records.proofs.PrefixLaws.{bytes_hold}
 use Rattle.records.specs.declared.Record.{Record}
 use Rattle.records.specs.declared.Reading.{Reading}
@@ -38,6 +40,14 @@ unfolding refused_text
 refused_put a at n x y = put_both x y
 
 module _ (a : List ℕ) (at : ℕ) {b : List ℕ} {p : ℕ} where
+  -- a method's own starts, of its two
+  pub starts_put : (m : Method) {number count : ℕ} {two : List Float} → number ≡ method_number m → count ≡ start_count number → two ≡ two_starts m → Put a at (numbers_text (take count two)) b p → Put a at (numbers_text (starts_of m)) b p
+  starts_put m e f g x = rw (own_starts m e f g) at x
+
+  -- a record's own coefficients, of its 16
+  pub own_put : (k : Record) {own : ℕ} → own ≡ own_count k → length k.coefficients ≡ 16 → Put a at (numbers_text (take own k.coefficients)) b p → Put a at (numbers_text (take k.count k.coefficients)) b p
+  own_put k e l x = rw (own_are k e l) at x
+
   module _ {c : List ℕ} {q : ℕ} {d : List ℕ} {r : ℕ} where
     pub rule_put : (m : Method) (t : Tolerances) (limit : ℕ) → Put a at (numbers_text (starts_of m)) b p → Put b p (numbers_text (t.value ∷ t.point ∷ [])) c q → Put c q (decimal_field limit 32) d r → Put a at (rule_text m t limit) d r
     unfolding rule_text

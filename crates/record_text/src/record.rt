@@ -1,15 +1,13 @@
 // A record as a line: LENGTH RECORD_KIND METHOD COUNT A0 .. START [START] VALUE_TOLERANCE POINT_TOLERANCE LIMIT KIND
 // NUMBERS.. STEPS VALUES DERIVATIVES MARK.
-ghost use Rattle.std.specs.Prelude.{◌≡◌, ◌+◌, ◌≤◌, length, take, IfSome};
+ghost use Rattle.std.specs.Prelude.{◌≡◌, ◌+◌, ◌≤◌, length, IfSome};
 ghost use Rattle.records.specs.Records.{reading_of};
-ghost use Rattle.roots.specs.Calls.{starts_of};
-ghost use Rattle.line_text.specs.Texts.{Put, numbers_text};
+ghost use Rattle.line_text.specs.Texts.{Put};
 ghost use Rattle.record_text.specs.RecordTexts.{longest_line, rule_text, call_text, record_text, refused_text, reading_text, taken_by};
 
 use line_text::text;
 use records::Record;
 use roots::Method;
-use simple_convergency::{StopRule, Tolerances};
 
 // Where a record's line ends, and how many bytes the record took, if it was not refused.
 #[derive(Clone, Copy)]
@@ -21,40 +19,18 @@ pub struct Shown {
 // No line of a record is longer.
 pub const LONGEST_LINE: usize = 601;
 
-// The starts of a method: Newton has one.
-fn put_starts(out: &mut [u8], at: usize, method: Method) -> usize
-    requires { at + 34 ≤ length out.old }
-    ensures put { Put out.old at (numbers_text (starts_of method)) out.new result }
-    ensures upper_bound { result ≤ at + 34 }
-{
-    match method {
-        Method::Brent { from, to }
-        | Method::RegulaFalsi { from, to }
-        | Method::Polynom { from, to } => text::put_doubles(out, at, &[from, to]),
-        Method::Secant { first, second } => text::put_doubles(out, at, &[first, second]),
-        Method::NewtonRaphson { start } => text::put_doubles(out, at, &[start]),
-    }
-}
-
-// The first `count` coefficients, of which there are 16 at most.
-fn put_coefficients(out: &mut [u8], at: usize, a: &[f64; 16], count: usize) -> usize
-    requires { at + 272 ≤ length out.old }
-    ensures put { Put out.old at (numbers_text (take count a.now)) out.new result }
-    ensures upper_bound { result ≤ at + 272 }
-{
-    let shown = count.min(StopRule::MOST_COEFFICIENTS);
-    text::put_doubles(out, at, &a[..shown])
-}
-
-// The starts, the tolerances and the limit.
-fn put_rule(out: &mut [u8], at: usize, method: Method, tolerances: Tolerances, limit: u64) -> usize
+// The starts, the tolerances and the limit. Not one with the rule of records: a line has both tolerances and no bytes, in every kind.
+fn put_rule(out: &mut [u8], at: usize, content: &Record) -> usize
     requires { at + 89 ≤ length out.old }
-    ensures put { Put out.old at (rule_text method tolerances limit) out.new result }
+    ensures put { Put out.old at (rule_text content.now.method content.now.tolerances content.now.limit) out.new result }
     ensures upper_bound { result ≤ at + 89 }
 {
-    let p = put_starts(out, at, method);
+    let starts = content.method.starts();
+    let count = Method::start_count(content.method.number());
+    let tolerances = content.tolerances;
+    let p = text::put_doubles(out, at, &starts[..count]);
     let q = text::put_doubles(out, p, &[tolerances.value, tolerances.point]);
-    text::put_decimal(out, q, limit, b' ')
+    text::put_decimal(out, q, content.limit, b' ')
 }
 
 // The call: its method's number, its coefficients with their count, and the rest of it.
@@ -65,8 +41,9 @@ fn put_call(out: &mut [u8], at: usize, content: &Record) -> usize
 {
     let p = text::put_decimal(out, at, content.method.number() as u64, b' ');
     let q = text::put_decimal(out, p, content.count as u64, b' ');
-    let t = put_coefficients(out, q, &content.coefficients, content.count);
-    put_rule(out, t, content.method, content.tolerances, content.limit)
+    let own = content.own_count();
+    let t = text::put_doubles(out, q, &content.coefficients[..own]);
+    put_rule(out, t, content)
 }
 
 // A record of so many bytes: the length, the kind, the call and the answer.

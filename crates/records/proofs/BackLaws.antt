@@ -19,6 +19,7 @@ use Rattle.numerical.specs.declared.Progress.{Progress}
 use Rattle.simple_convergency.specs.Stop.{least_tolerance, bad_tolerance, one_eps, greatest_limit, most_coefficients}
 use Rattle.simple_convergency.specs.declared.Tolerances.{Tolerances}
 use Rattle.roots.specs.Calls.{starts_of}
+use Rattle.roots.proofs.CallLaws.{few_starts}
 use Rattle.roots.specs.Methods.{method_number, start_count, method_of}
 use Rattle.roots.specs.declared.Method.{Method}
 use Rattle.rows.specs.Groups.{groups, groups_in}
@@ -28,7 +29,7 @@ use Rattle.rows.proofs.LayoutLaws.{spell_append}
 use Rattle.records.specs.Records.{bits_of, head_row, tolerances_row, rule_row, call_row, answer_row, progress_row, row_of, between, is_double, is_tolerance, is_kind, numbers_for, answer_of, started_at, noughts, padded, progress_of, doubles, behind_zero, headed, with_point, tolerances_for, record_layout, holds_both, longest_record}
 use Rattle.records.specs.Parts.{rule_layout, call_layout, answer_layout, progress_layout}
 use Rattle.records.specs.PartLaws.{CallNext, record_held, after_call}
-use Rattle.records.proofs.PartLaws.{by_parts, few_starts}
+use Rattle.records.proofs.PartLaws.{by_parts}
 use Rattle.records.specs.RoundLaws.{Held, Sound}
 use Rattle.records.proofs.RoundLaws.{at_the_end, most, least}
 use Rattle.records.specs.declared.Record.{Record}
@@ -442,7 +443,7 @@ rule_part kind m h next {l} {x} r =
     let p = ten_each b.bits in
     let q = bits_length b.bits in
     let s = b.count in
-    let t = few_starts m in
+    let t = few_starts m refl in
     omega arith
     in
     record {

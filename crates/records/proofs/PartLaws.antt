@@ -1,5 +1,6 @@
 -- The parts of a record, read one after the other.
-use Rattle.std.specs.Prelude.{Err, ℕ, ◌-◌, ◌≤◌, Bool, eqb, length, take, drop, get_or, Ok, Float}
+use Rattle.std.specs.Prelude.{Err, ℕ, ◌-◌, ◌≤◌, Bool, eqb, length, take, drop, get_or, Ok, Float, Option, Some, None}
+use Rattle.std.specs.Option.{ok_or}
 use native.Mathlib.Omega.{arith}
 use Rattle.std.proofs.Math.Bool.{true, false, cond}
 use mathlib.Core.List.{List, [], ◌∷◌, ◌++◌}
@@ -18,10 +19,12 @@ use Rattle.rows.specs.Groups.{none, number_of, TookOne}
 use Rattle.rows.specs.Layouts.{Layout, end, number, read, TookNumber, NoNumber, Goes, Fails}
 use Rattle.rows.proofs.LayoutLaws.{goes_on, goes_wrong}
 use Rattle.records.specs.Records.{between, is_tolerance, is_kind, is_tally, numbers_for, answer_of, started_at, noughts, padded, progress_of, doubles, behind_zero, headed, tolerances_for, record_layout, reading_of}
-use Rattle.records.specs.Parts.{double_part, head_part, rule_layout, rule_part, call_layout, call_part, answer_layout, progress_layout, HeldPart, NoPart}
+use Rattle.records.specs.Parts.{double_part, head_part, rule_layout, rule_part, call_layout, call_part, answer_layout, progress_layout, Part, HeldPart, NoPart, TookPart}
 use Rattle.records.proofs.ReadLaws.{number_held, number_missed, tally_held, tally_missed}
 use Rattle.records.specs.declared.Record.{Record}
 use Rattle.records.specs.declared.Reading.{Reading}
+use Rattle.rows.specs.declared.Taken.{Taken}
+use Rattle.records.specs.declared.Refusal.{Refusal}
 use Rattle.records.specs.declared.Refusal.TheVariants.{NoRecord}
 use Rattle.records.specs.declared.Head.{Head}
 use Rattle.records.specs.declared.Rule.{Rule}
@@ -204,15 +207,6 @@ module _ (kind m : ℕ) (s : List ℕ) (at : ℕ) {k : ℕ} (e : k ≡ start_cou
                 (goes_on (tolerances_read next) ((number_held z).goes (λ limit. next (record { method = started_at m b; tolerances = tolerances; limit = limit }))));
           }
 
--- at most two starts
-pub few_starts : (m : ℕ) → start_count m ≤ 2
-unfolding start_count
-few_starts m = go (eqb m 4)
-  where
-    go : (b : Bool) → cond b 1 2 ≤ 2
-    go true = omega arith
-    go false = omega arith
-
 -- ---- a call
 
 abbrev call_held : ℕ → ℕ → List Float → Rule → Call
@@ -337,6 +331,23 @@ module _ (s : List ℕ) where
 
       pub record_is : {progress : Progress} {u : ℕ} → HeldPart progress_layout s q progress u → Goes record_layout s 0 (end (content_of call answer progress)) u
       record_is z = goes_on answer_read (z.goes (λ progress. end (content_of call answer progress)))
+
+-- ---- a part, or no record
+
+module _ {X : Type 0} {part : Part X} {s : List ℕ} {at : ℕ} (o : Option (Taken X)) where
+  pub held_or : {taken : Taken X} → Ok taken ≡ ok_or o NoRecord → TookPart part s at o → HeldPart part s at taken.value taken.next
+  held_or {taken} e t = rw (some o e) at t
+    where
+      some : (o : Option (Taken X)) → Ok taken ≡ ok_or o NoRecord → o ≡ Some taken
+      some (Some x) e = cc
+      some None e = cc
+
+  pub none_or : {why : Refusal} → Err why ≡ ok_or o NoRecord → TookPart part s at o → NoPart part s at
+  none_or {why} e t = rw (none o e) at t
+    where
+      none : (o : Option (Taken X)) → Err why ≡ ok_or o NoRecord → o ≡ None
+      none (Some x) e = cc
+      none None e = refl
 
 -- ---- what reading tells
 

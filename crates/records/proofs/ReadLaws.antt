@@ -10,7 +10,7 @@ use borrow.Author.Tests.{ltb-false}
 use Rattle.rows.specs.Groups.{Found, found, none, number_of, TookOne}
 use Rattle.rows.specs.Layouts.{Layout, number, only, TookNumber, NoNumber, Goes}
 use Rattle.rows.proofs.GroupLaws.{none_found}
-use Rattle.rows.proofs.LayoutLaws.{goes_here, goes_on, goes_wrong, number_wrong, number_goes}
+use Rattle.rows.proofs.LayoutLaws.{goes_on, goes_wrong, number_wrong, number_goes}
 use Rattle.records.specs.Records.{between, is_double, is_tally, record_layout, doubles}
 use Rattle.records.specs.Parts.{Part, double_part, HeldPart, NoPart}
 use Rattle.records.specs.declared.Record.{Record}
@@ -83,12 +83,6 @@ pub place : {X : Type 0} {part : Part X} {s : List ℕ} {at p : ℕ} {x : X} →
 place g = (g.goes (λ x. record_layout)).within
 
 -- ---- doubles
-
-pub fill_starts : (k : ℕ) (s : List ℕ) (at : ℕ) (a : List Float) → at ≤ length s → length a ≡ k → Filling k s at a at 0
-fill_starts k s at a h l = record { within = h; count = omega arith; room = l; goes = λ next. rw all_left (goes_here (doubles k next) h) }
-  where
-    all_left : k - 0 ≡ k
-    all_left = omega arith
 
 module _ {k : ℕ} {s : List ℕ} {at : ℕ} {a : List Float} {p i : ℕ} (g : Filling k s at a p i) where
   pub fill_done : k ≤ i → HeldPart (doubles k) s at a p

@@ -1,28 +1,29 @@
 -- The parts of a record put one after the other, and a record written or refused.
-use Rattle.std.specs.Prelude.{ℕ, ◌+◌, ◌*◌, ◌-◌, ◌≤◌, ◌<◌, Bool, true, ◌⊎◌, eqb, ltb, min, Result, Ok, Err, length, take, drop, get_or, Float}
+use Rattle.std.specs.Prelude.{ℕ, ◌+◌, ◌*◌, ◌-◌, ◌≤◌, ◌<◌, Bool, true, ◌⊎◌, eqb, min, Result, Ok, Err, length, take, drop, get_or, Float}
 use Rattle.std.proofs.Common.{add-one, arith, true≢false, inl, inr, sym, ◌∙◌, length-append, take_all}
 use Rattle.std.proofs.Math.Bool.{false}
 use mathlib.Core.List.{List, [], ◌∷◌, ◌++◌, append_assoc}
 use Rattle.std.proofs.Math.Path.{◌≡◌, refl, ap}
 use Rattle.std.proofs.Math.Seq.{take-suc}
+use Rattle.std.proofs.lemmas.List.{length-take, take_min}
 use Rattle.std.specs.Float.Ieee.{nan, to_bits}
 use Rattle.std.specs.Float.{binary64}
-use borrow.Author.Tests.{lt-ltb, le-ltb, eq-eqb, ne_eqb, ltb-true, ltb-false}
-use Rattle.numerical.specs.Answers.{kind_of, numbers_of, padded}
+use borrow.Author.Tests.{lt-ltb, le-ltb, eq-eqb, ne_eqb}
+use Rattle.numerical.specs.Answers.{kind_of, numbers_of, padded, counts_of}
 use Rattle.numerical.specs.declared.Answer.{Answer}
 use Rattle.numerical.specs.declared.Answer.TheVariants.{ByValue, ByWidth, Refused}
-use Rattle.numerical.specs.declared.Progress.{Progress}
 use Rattle.simple_convergency.specs.declared.Tolerances.{Tolerances}
-use Rattle.roots.specs.Calls.{starts_of}
-use Rattle.roots.specs.Methods.{method_number}
+use Rattle.roots.specs.Calls.{starts_of, two_starts}
+use Rattle.roots.specs.Methods.{method_number, start_count}
+use Rattle.roots.proofs.CallLaws.{few_starts, own_starts}
 use Rattle.roots.specs.declared.Method.{Method}
 use Rattle.rows.specs.Layouts.{spell, fits, Read, held, wrong, read}
 use Rattle.rows.proofs.LayoutLaws.{row_only, right_if, wrong_if_none, wrong_if_short}
 use Rattle.rows.specs.Puts.{PutRow}
 use Rattle.rows.proofs.PutLaws.{put_front, row_nothing, row_both}
-use Rattle.records.specs.Records.{bits_of, head_row, tolerances_row, rule_row, call_row, answer_row, progress_row, row_of, record_layout, holds_both, numbers_for, recordable, bytes_of, written_to, left_by, told, reading_of}
+use Rattle.records.specs.Records.{bits_of, head_row, tolerances_row, rule_row, call_row, answer_row, progress_row, row_of, record_layout, holds_both, numbers_for, own_count, recordable, bytes_of, written_to, left_by, told, reading_of}
 use Rattle.records.specs.Parts.{is_all, whole_of}
-use Rattle.records.specs.Drafts.{Puts, Drawn}
+use Rattle.records.specs.Drafts.{Puts}
 use Rattle.records.specs.declared.Draft.{Draft}
 use Rattle.records.specs.declared.Record.{Record}
 use Rattle.records.specs.declared.Reading.{Reading}
@@ -51,13 +52,34 @@ module _ (a : List Float) (i : ℕ) {before now : Draft} (g : Puts (10 * i) (bit
   pub doubles_done : length a ≤ i → i ≤ length a → Puts (10 * length a) (bits_of a) before now
   doubles_done h l = record { put = rw (take_all i a h) at g.put; near = let y = g.near in omega arith }
 
--- where there are more than 16, the first 16 are all
-pub all_put : (b : List ℕ) (at : ℕ) (a : List Float) (k j : ℕ) {now : List ℕ} {r : ℕ} → length a ≡ 16 → j ≡ min k 16 → PutRow b at (bits_of (take j a)) now r → PutRow b at (bits_of (take k a)) now r
-all_put b at a k j l e x = rw (same (ltb k 16) refl) x
-  where
-    same : (c : Bool) → ltb k 16 ≡ c → take k a ≡ take j a
-    same true f = ap (λ (i : ℕ). take i a) (let h = ltb-true k 16 f in omega arith)
-    same false f = take_all k a (let h = ltb-false k 16 f in omega arith) ∙ sym (take_all j a (let h = ltb-false k 16 f in omega arith))
+-- ---- numbers
+
+pub numbers_start : (d : Draft) (row : List ℕ) → d.length ≤ length d.bytes → Puts (10 * 0) (take 0 row) d d
+numbers_start d row h = record { put = row_nothing d.bytes d.length h; near = omega arith }
+
+module _ (row : List ℕ) (i : ℕ) {before now : Draft} (g : Puts (10 * i) (take i row) before now) where
+  pub numbers_on : {after : Draft} → i < length row → Puts 10 (get_or row i 0 ∷ []) now after → Puts (10 * (i + 1)) (take (i + 1) row) before after
+  numbers_on {after} h x = record { put = rw (add-one i, take-suc row i 0 h) (row_both g.put x.put); near = let y = g.near in let z = x.near in omega arith }
+
+  pub numbers_done : length row ≤ i → i ≤ length row → Puts (10 * length row) row before now
+  numbers_done h l = record { put = rw (take_all i row h) at g.put; near = let y = g.near in omega arith }
+
+-- ---- a method's own starts, and a record's own coefficients
+
+-- the coefficients up to its count, of 16 at most
+pub own_are : (k : Record) {count : ℕ} → count ≡ own_count k → length k.coefficients ≡ 16 → take count k.coefficients ≡ take k.count k.coefficients
+own_are k e l = ap (λ (i : ℕ). take i k.coefficients) (e ∙ ap (min k.count) (sym l)) ∙ take_min k.count k.coefficients
+
+module _ {before now : Draft} where
+  pub starts_put :
+      (m : Method) {number count : ℕ} {two : List Float} → number ≡ method_number m → count ≡ start_count number → two ≡ two_starts m →
+      Puts (10 * length (take count two)) (bits_of (take count two)) before now → Puts 20 (bits_of (starts_of m)) before now
+  starts_put m {number} {count} {two} e f g x = record { put = rw (own_starts m e f g) at x.put; near = let y = x.near in let z = length-take count two in let few = few_starts number f in omega arith }
+
+  pub own_put :
+      (k : Record) {count : ℕ} → count ≡ own_count k → length k.coefficients ≡ 16 →
+      Puts (10 * length (take count k.coefficients)) (bits_of (take count k.coefficients)) before now → Puts 160 (bits_of (take k.count k.coefficients)) before now
+  own_put k {count} e l x = record { put = rw (own_are k e l) at x.put; near = let y = x.near in let z = length-take count k.coefficients in omega arith }
 
 -- ---- the parts of a record
 
@@ -69,12 +91,13 @@ own_numbers (ByWidth x y z) n e = rw e
 own_numbers (Refused m) n e = rw (ne_eqb n 0 (λ z. omega arith), ne_eqb n 1 (λ z. omega arith))
 
 module _ (a : List ℕ) (at : ℕ) {b : List ℕ} {p : ℕ} where
-  pub starts_put : (m : Method) {n : Method} → m ≡ n → PutRow a at (bits_of (starts_of n)) b p → PutRow a at (bits_of (starts_of m)) b p
-  starts_put m e x = rw e x
-
   pub old_head_put : (kind : ℕ) (m : Method) {n : ℕ} → kind ≡ 1 → n ≡ method_number m → PutRow a at (n ∷ []) b p → PutRow a at (head_row kind ++ (method_number m ∷ [])) b p
   unfolding head_row
   old_head_put kind m e f y = rw (eq-eqb kind 1 e, ← f) y
+
+  pub new_head_put : (kind : ℕ) (m : Method) {n : ℕ} → (kind ≡ 1 → ⊥) → n ≡ method_number m → PutRow a at (0 ∷ kind ∷ n ∷ []) b p → PutRow a at (head_row kind ++ (method_number m ∷ [])) b p
+  unfolding head_row
+  new_head_put kind m z f x = rw (ne_eqb kind 1 z, ← f) x
 
   pub one_put : (kind : ℕ) (t : Tolerances) → kind ≡ 1 → PutRow a at (bits_of (t.value ∷ [])) b p → PutRow a at (tolerances_row kind t) b p
   unfolding tolerances_row bits_of
@@ -98,12 +121,6 @@ module _ (a : List ℕ) (at : ℕ) {b : List ℕ} {p : ℕ} where
       unfolding rule_row
       rule_put kind m t limit x y z = row_both x (row_both y z)
 
-      pub new_head_put :
-          (kind : ℕ) (m : Method) {n : ℕ} → (kind ≡ 1 → ⊥) → n ≡ method_number m → PutRow a at (0 ∷ []) b p → PutRow b p (kind ∷ []) c q → PutRow c q (n ∷ []) d r →
-          PutRow a at (head_row kind ++ (method_number m ∷ [])) d r
-      unfolding head_row
-      new_head_put kind m z f x y w = rw (ne_eqb kind 1 z, ← f) (row_both x (row_both y w))
-
       pub call_put :
           (k : Record) {e : List ℕ} {u : ℕ} → PutRow a at (head_row k.kind ++ (method_number k.method ∷ [])) b p → PutRow b p (k.count ∷ []) c q →
           PutRow c q (bits_of (take k.count k.coefficients)) d r → PutRow d r (rule_row k.kind k.method k.tolerances k.limit) e u → PutRow a at (call_row k) e u
@@ -112,15 +129,13 @@ module _ (a : List ℕ) (at : ℕ) {b : List ℕ} {p : ℕ} where
           rw (append_assoc (head_row k.kind) (method_number k.method ∷ []) (k.count ∷ (bits_of (take k.count k.coefficients) ++ rule_row k.kind k.method k.tolerances k.limit))) at
           (row_both x (row_both y (row_both z w)))
 
-      pub progress_put : (g : Progress) {n : ℕ} {e : List ℕ} {u : ℕ} → n ≡ g.mark → PutRow a at (g.tally.steps.0 ∷ []) b p → PutRow b p (g.tally.values.0 ∷ []) c q → PutRow c q (g.tally.derivatives.0 ∷ []) d r → PutRow d r (n ∷ []) e u → PutRow a at (progress_row g) e u
-      unfolding progress_row
-      progress_put g f x y z w = rw f at (row_both x (row_both y (row_both z w)))
-
-pub record_drawn :
-    (k : Record) {empty called answered drawn : Draft} → empty.length ≡ 0 → Puts 250 (call_row k) empty called → Puts 40 (answer_row k.outcome.answer) called answered →
-    Puts 40 (progress_row k.outcome.progress) answered drawn → Drawn (row_of k) drawn
-unfolding row_of
-record_drawn k {empty} e x y z = record { before = empty.bytes; is = rw e at (row_both x.put (row_both y.put z.put)) }
+pub record_put :
+    (k : Record) {before called answered now : Draft} {counts : List ℕ} → counts ≡ counts_of k.outcome.progress → Puts 250 (call_row k) before called →
+    Puts 40 (answer_row k.outcome.answer) called answered → Puts (10 * length counts) counts answered now → Puts 330 (row_of k) before now
+unfolding row_of progress_row
+record_put k f x y z =
+    let last = rw f at z in
+    record { put = row_both x.put (row_both y.put last.put); near = let a = x.near in let b = y.near in let c = last.near in omega arith }
 
 -- ---- a record written, or refused
 
@@ -129,19 +144,16 @@ pub same_bits : (kind : ℕ) (t : Tolerances) {i j : ℕ} → kind ≡ 1 → i �
 unfolding holds_both
 same_bits kind t e f g = rw (eq-eqb kind 1 e, ← f, ← g)
 
-module _ {row : List ℕ} {draft : Draft} (x : Drawn row draft) where
+module _ {row bytes : List ℕ} {draft : Draft} (x : Puts 330 row (record { bytes = bytes; length = 0 }) draft) where
   -- the bytes that were put
   abbrev drawn : List ℕ
   drawn = take draft.length draft.bytes
 
   spelled : drawn ≡ spell row
-  spelled = put_front x.is.put
+  spelled = put_front x.put.put
 
   as_long : draft.length ≡ length (spell row)
-  as_long = x.is.put.ends ∙ (let z : 0 + length (spell row) ≡ length (spell row) = omega arith in z)
-
-  pub count_is : draft.length ≡ length drawn
-  count_is = as_long ∙ sym (ap length spelled)
+  as_long = x.put.put.ends ∙ (let z : 0 + length (spell row) ≡ length (spell row) = omega arith in z)
 
 -- what a reading says of the bytes
 module _ (s : List ℕ) where
@@ -203,7 +215,7 @@ module _ (o : Record) (before : List ℕ) where
   pub no_room_for_both : {b : Bool} → b ≡ holds_both o.kind o.tolerances → b ≡ false → (Err NoRecord ≡ written_to o (length before)) × (before ≡ left_by o before (written_to o (length before)))
   no_room_for_both y e = both refl (eleven (rw (sym y ∙ e))) refl
 
-module _ (before : List ℕ) (o : Record) {h : Bool} (k : h ≡ holds_both o.kind o.tolerances) (j : h ≡ true) {draft : Draft} (x : Drawn (row_of o) draft) {b : Bool} (y : b ≡ whole_of (take draft.length draft.bytes)) where
+module _ (before : List ℕ) (o : Record) {h : Bool} (k : h ≡ holds_both o.kind o.tolerances) (j : h ≡ true) {bytes : List ℕ} {draft : Draft} (x : Puts 330 (row_of o) (record { bytes = bytes; length = 0 }) draft) {b : Bool} (y : b ≡ whole_of (take draft.length draft.bytes)) where
   on_row : b ≡ is_all (read record_layout (spell (row_of o)))
   unfolding whole_of
   on_row = y ∙ ap (λ (s : List ℕ). is_all (read record_layout s)) (spelled x)
@@ -221,14 +233,12 @@ module _ (before : List ℕ) (o : Record) {h : Bool} (k : h ≡ holds_both o.kin
 
   module _ (e : b ≡ true) where
     right : recordable o ≡ true
-    right = let f = all_held (read record_layout (spell (row_of o))) (sym on_row ∙ e) in by_row ∙ right_if record_layout (row_of o) f.0 x.is.small f.1
+    right = let f = all_held (read record_layout (spell (row_of o))) (sym on_row ∙ e) in by_row ∙ right_if record_layout (row_of o) f.0 x.put.small f.1
 
     pub no_room : length before < draft.length → (Err NoRoom ≡ written_to o (length before)) × (before ≡ left_by o before (written_to o (length before)))
     no_room h = both o before refl (ten o before right (rw (← (as_long x)) h)) refl
 
     pub written :
-        {t : List ℕ} → draft.length ≤ length before → t ≡ take draft.length draft.bytes →
-        (Ok draft.length ≡ written_to o (length before)) × (t ++ drop draft.length before ≡ left_by o before (written_to o (length before)))
-    written h q =
-        both o before (ap (λ (k : ℕ). Ok k) (as_long x)) (enough o before right (rw (← (as_long x)) h))
-        (ap (λ (l : List ℕ). l ++ drop draft.length before) (q ∙ spelled x) ∙ ap (λ (k : ℕ). bytes_of o ++ drop k before) (as_long x))
+        {now : List ℕ} → draft.length ≤ length before → now ≡ drawn x ++ drop (length (drawn x)) before →
+        (Ok draft.length ≡ written_to o (length before)) × (now ≡ left_by o before (written_to o (length before)))
+    written h q = both o before (ap (λ (k : ℕ). Ok k) (as_long x)) (enough o before right (rw (← (as_long x)) h)) (q ∙ ap (λ (l : List ℕ). l ++ drop (length l) before) (spelled x))

@@ -7,8 +7,3 @@ use Rattle.records.specs.declared.Draft.{Draft}
 pub record Puts (room : ℕ) (row : List ℕ) (before now : Draft) : Type 0 where
   pub put : PutRow before.bytes before.length row now.bytes now.length
   pub near : now.length ≤ before.length + room
-
--- the draft holds the numbers, and nothing else
-pub record Drawn (row : List ℕ) (draft : Draft) : Type 0 where
-  pub before : List ℕ
-  pub is : PutRow before 0 row draft.bytes draft.length

@@ -1,5 +1,5 @@
 -- A record of a search: the row of numbers of a call and its answer, which rows are records, and what reading and writing bytes gives. Definitions only.
-use Rattle.std.specs.Prelude.{ℕ, zero, suc, ◌-◌, Bool, true, false, cond, not, List, [], ◌∷◌, ◌++◌, ltb, eqb, length, take, drop, get_or, Float, Result, Ok, Err}
+use Rattle.std.specs.Prelude.{ℕ, zero, suc, ◌-◌, Bool, true, false, cond, not, List, [], ◌∷◌, ◌++◌, ltb, eqb, length, take, drop, get_or, min, Float, Result, Ok, Err}
 use Rattle.std.specs.Float.{nan, binary64}
 use Rattle.std.specs.Float.Ieee.{of_bits, to_bits}
 use Rattle.std.specs.Float.Ieee.Scale.{finite}
@@ -40,6 +40,10 @@ head_row kind = cond (eqb kind 1) [] (0 ∷ kind ∷ [])
 -- in kind 1 one eps; in kind 2 "both tolerances follow the starts", the value tolerance first
 unfoldable pub tolerances_row : ℕ → Tolerances → List ℕ
 tolerances_row kind tolerances = cond (eqb kind 1) (to_bits binary64 tolerances.value ∷ []) (to_bits binary64 tolerances.value ∷ to_bits binary64 tolerances.point ∷ [])
+
+-- of the coefficients those that are its own, 16 at most
+abbrev pub own_count : Record → ℕ
+own_count r = min r.count most_coefficients
 
 -- the starts, the tolerances, the limit
 unfoldable pub rule_row : ℕ → Method → Tolerances → ℕ → List ℕ

@@ -2,11 +2,10 @@
 
 #![tactic(auto)]
 
-ghost use Rattle.std.specs.Prelude.{ℕ, Bool, true, ◌*◌, ◌+◌, ◌≤◌, drop, length, take, [], ◌++◌, ◌∷◌, ◌≡◌};
-ghost use Rattle.records.specs.Drafts.{Puts, Drawn};
+ghost use Rattle.std.specs.Prelude.{ℕ, Bool, true, ◌*◌, ◌+◌, ◌≤◌, length, [], ◌++◌, ◌∷◌, ◌≡◌};
+ghost use Rattle.records.specs.Drafts.{Puts};
 ghost use Rattle.records.specs.Parts.{Decides, Filled, TookIf, TookPart, answer_layout, call_part, double_part, head_part, progress_layout, rule_part, whole_of};
-ghost use Rattle.records.specs.Records.{answer_of, answer_row, between, bits_of, call_row, head_row, holds_both, is_double, is_kind, is_tolerance, left_by, numbers_for, progress_row, reading_of, refusal_number, row_of, rule_row, tolerances_for, tolerances_row, written_to};
-ghost use Rattle.roots.specs.Calls.{starts_of};
+ghost use Rattle.records.specs.Records.{answer_of, answer_row, between, bits_of, call_row, head_row, holds_both, is_double, is_kind, is_tolerance, left_by, numbers_for, own_count, reading_of, refusal_number, row_of, rule_row, tolerances_for, tolerances_row, written_to};
 ghost use Rattle.roots.specs.Methods.{method_number};
 
 use numerical::{Answer, Derivatives, Outcome, Progress, Steps, Tally, Values};
@@ -35,6 +34,13 @@ impl Record {
 
     // No record has more bytes.
     pub const LONGEST: usize = 268;
+
+    // How many of the coefficients are its own. Where the count is above 16 all are, and no record is written of it.
+    pub fn own_count(&self) -> usize
+        ensures { result ≡ own_count self.now }
+    {
+        self.count.min(StopRule::MOST_COEFFICIENTS)
+    }
 }
 
 // Why nothing was read or written: the buffer is too short for the record, or there is no record.
@@ -66,7 +72,8 @@ pub struct Reading {
 // The bytes and an index are passed on, and no reader that moves: so a part is a function of them, and its contract speaks of
 // no state before and after.
 
-// The kind, and the number of the method.
+// The kind, and the number of the method. No enum for the kind: `Record.kind` and `Method::numbered` take every number, and it
+// would be turned back into its number where a record is made of it.
 #[derive(Clone, Copy)]
 struct Head {
     kind: u64,
@@ -81,7 +88,7 @@ struct Rule {
     limit: u64,
 }
 
-// A call: of the coefficients the first `count` were read, and zeros stand behind them.
+// A call: of the coefficients the first `count` were read, and zeros stand behind them, in fixed memory with no heap.
 #[derive(Clone, Copy)]
 struct Call {
     kind: u64,
@@ -120,11 +127,7 @@ fn take_if<F: Fn(u64) -> bool>(s: &[u8], at: usize, is_right: F) -> Option<Taken
     ensures { (ok : ℕ → Bool) → Decides (F.post is_right) ok → TookIf ok s.now at result }
 {
     let taken = rows::take(s, at)?;
-    if is_right(taken.value) {
-        Some(taken)
-    } else {
-        None
-    }
+    is_right(taken.value).then_some(taken)
 }
 
 // A number from `least` to `most`.
@@ -317,15 +320,9 @@ fn read_progress(s: &[u8], at: usize) -> Option<Taken<Progress>>
 pub fn read(s: &[u8]) -> Result<Reading, Refusal>
     ensures { result ≡ reading_of s.now }
 {
-    let Some(call) = read_call(s) else {
-        return Err(Refusal::NoRecord);
-    };
-    let Some(answer) = read_answer(s, call.next) else {
-        return Err(Refusal::NoRecord);
-    };
-    let Some(progress) = read_progress(s, answer.next) else {
-        return Err(Refusal::NoRecord);
-    };
+    let call = read_call(s).ok_or(Refusal::NoRecord)?;
+    let answer = read_answer(s, call.next).ok_or(Refusal::NoRecord)?;
+    let progress = read_progress(s, answer.next).ok_or(Refusal::NoRecord)?;
     let rule = call.value.rule;
     let coefficients = call.value.coefficients;
     let content = Record {
@@ -349,7 +346,7 @@ pub fn read(s: &[u8]) -> Result<Reading, Refusal>
 // ---- writing: each part is put behind the one before
 
 // The bytes of a record while they are made, of which the first `length` are put: an array with its length, in fixed memory
-// with no heap, with room for 33 numbers of ten bytes.
+// with no heap, with room for 33 numbers of ten bytes. Each part asks for its own room, and no invariant does: they differ in it.
 #[derive(Drop)]
 struct Draft {
     bytes: [u8; 330],
@@ -365,6 +362,16 @@ impl Draft {
         self.length = rows::put(n, &mut self.bytes, self.length);
     }
 
+    // Numbers, one behind the other.
+    fn put_numbers(&mut self, row: &[u64])
+        requires { self.old.length + 10 * length row.now ≤ 330 }
+        ensures { Puts (10 * length row.now) row.now self.old self.new }
+    {
+        for n in row {
+            self.put_number(*n);
+        }
+    }
+
     // Doubles, finite or not.
     fn put_doubles(&mut self, a: &[f64])
         requires { self.old.length + 10 * length a.now ≤ 330 }
@@ -373,28 +380,6 @@ impl Draft {
         for x in a {
             self.put_number(doubles::pattern(*x));
         }
-    }
-
-    // The starts of a method: Newton has one.
-    fn put_starts(&mut self, method: Method)
-        requires { self.old.length + 20 ≤ 330 }
-        ensures { Puts 20 (bits_of (starts_of method)) self.old self.new }
-    {
-        match method {
-            Method::Brent { from, to }
-            | Method::RegulaFalsi { from, to }
-            | Method::Polynom { from, to } => self.put_doubles(&[from, to]),
-            Method::Secant { first, second } => self.put_doubles(&[first, second]),
-            Method::NewtonRaphson { start } => self.put_doubles(&[start]),
-        }
-    }
-
-    // Where the count is above 16 there are 16, and the reader refuses the count.
-    fn put_coefficients(&mut self, a: [f64; 16], count: usize)
-        requires { self.old.length + 160 ≤ 330 }
-        ensures { Puts 160 (bits_of (take count a)) self.old self.new }
-    {
-        self.put_doubles(&a[..count.min(StopRule::MOST_COEFFICIENTS)]);
     }
 
     // The kind, and the method's number. Kind 1 begins with the method, another with 0 and the kind.
@@ -406,9 +391,7 @@ impl Draft {
         if kind == 1 {
             return self.put_number(number);
         }
-        self.put_number(0);
-        self.put_number(kind);
-        self.put_number(number);
+        self.put_numbers(&[0, kind, number]);
     }
 
     // Kind 1 has one tolerance; another has that of values and then that of points.
@@ -422,12 +405,14 @@ impl Draft {
         self.put_doubles(&[tolerances.value, tolerances.point]);
     }
 
-    // The starts, the tolerances and the limit.
+    // The starts, the tolerances and the limit. Not one with that of record_text: in kind 1 a row has one tolerance.
     fn put_rule(&mut self, content: &Record)
         requires { self.old.length + 50 ≤ 330 }
         ensures { Puts 50 (rule_row content.now.kind content.now.method content.now.tolerances content.now.limit) self.old self.new }
     {
-        self.put_starts(content.method);
+        let starts = content.method.starts();
+        let count = Method::start_count(content.method.number());
+        self.put_doubles(&starts[..count]);
         self.put_tolerances(content.kind, content.tolerances);
         self.put_number(content.limit);
     }
@@ -439,7 +424,7 @@ impl Draft {
     {
         self.put_head(content.kind, content.method);
         self.put_number(content.count as u64);
-        self.put_coefficients(content.coefficients, content.count);
+        self.put_doubles(&content.coefficients[..content.own_count()]);
         self.put_rule(content);
     }
 
@@ -454,30 +439,14 @@ impl Draft {
         self.put_doubles(&numbers[..number_count(kind)]);
     }
 
-    // The tallies and the mark.
-    fn put_progress(&mut self, progress: Progress)
-        requires { self.old.length + 40 ≤ 330 }
-        ensures { Puts 40 (progress_row progress) self.old self.new }
-    {
-        let tally = progress.tally;
-        self.put_number(tally.steps.0);
-        self.put_number(tally.values.0);
-        self.put_number(tally.derivatives.0);
-        self.put_number(u64::from(progress.mark));
-    }
-
     // The whole row, right or not.
-    fn of(content: &Record) -> Draft
-        ensures { Drawn (row_of content.now) result }
+    fn put_record(&mut self, content: &Record)
+        requires { self.old.length + 330 ≤ 330 }
+        ensures { Puts 330 (row_of content.now) self.old self.new }
     {
-        let mut draft = Draft {
-            bytes: [0; 330],
-            length: 0,
-        };
-        draft.put_call(content);
-        draft.put_answer(content.outcome.answer);
-        draft.put_progress(content.outcome.progress);
-        draft
+        self.put_call(content);
+        self.put_answer(content.outcome.answer);
+        self.put_numbers(&content.outcome.progress.counts());
     }
 }
 
@@ -508,7 +477,11 @@ pub fn write(content: Record, out: &mut [u8]) -> Result<usize, Refusal>
     if !holds_both(content.kind, content.tolerances) {
         return Err(Refusal::NoRecord);
     }
-    let draft = Draft::of(&content);
+    let mut draft = Draft {
+        bytes: [0; 330],
+        length: 0,
+    };
+    draft.put_record(&content);
     let n = draft.length;
     if !is_whole(&draft.bytes[..n]) {
         return Err(Refusal::NoRecord);
@@ -516,6 +489,6 @@ pub fn write(content: Record, out: &mut [u8]) -> Result<usize, Refusal>
     if out.len() < n {
         return Err(Refusal::NoRoom);
     }
-    out[..n].copy_from_slice(&draft.bytes[..n]);
+    rows::copy(&draft.bytes[..n], out);
     Ok(n)
 }

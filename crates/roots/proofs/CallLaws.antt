@@ -1,11 +1,10 @@
 -- What the proofs of the calls cite.
-use Rattle.std.specs.Prelude.{ℕ, ◌≤◌, Bool, true, cond, ◌&&◌, List, [], ◌∷◌, ◌≡◌, refl, length, Float, Result, Ok, Err, IsErrAnd}
+use Rattle.std.specs.Prelude.{ℕ, ◌≤◌, Bool, true, cond, ◌&&◌, List, [], ◌∷◌, ◌≡◌, refl, eqb, length, take, Float, Result, Ok, Err, IsErrAnd}
 use Rattle.std.specs.List.{list_all}
 use Rattle.std.specs.Float.Ieee.{of_bits}
-use Rattle.std.proofs.Common.{true≢false, ap, sym, ◌∙◌}
+use Rattle.std.proofs.Common.{arith, true≢false, ap, sym}
 use Rattle.std.proofs.Math.Bool.{false}
 use Rattle.std.specs.Float.Ieee.Scale.{finite}
-use Rattle.numerical.specs.Answers.{refused_at_once}
 use Rattle.numerical.specs.declared.Outcome.{Outcome}
 use Rattle.simple_convergency.specs.Stop.{greatest_limit, checked_of}
 use Rattle.simple_convergency.specs.StopLaws.{Passed}
@@ -14,6 +13,7 @@ use Rattle.simple_convergency.specs.declared.StopRule.{StopRule}
 use Rattle.simple_convergency.specs.declared.Tolerances.{Tolerances}
 use Rattle.simple_convergency.specs.declared.BadRule.{BadRule}
 use Rattle.roots.specs.Calls.{bad_count, all_finite, starts_of, two_starts, found_by, found_under, answered, answer}
+use Rattle.roots.specs.Methods.{method_number, start_count}
 use Rattle.roots.specs.declared.BadCall.{BadCall}
 use Rattle.roots.specs.declared.BadCall.TheVariants.{Count, Coefficients, Starts, Rule}
 use Rattle.roots.specs.declared.Method.{Method}
@@ -39,6 +39,39 @@ two_finite (RegulaFalsi from to) = refl
 two_finite (Secant first second) = refl
 two_finite (NewtonRaphson start) = refl
 two_finite (Polynom from to) = refl
+
+-- ---- the starts that are a method's own
+
+long_two : (m : Method) → length (two_starts m) ≡ 2
+long_two (Brent from to) = refl
+long_two (RegulaFalsi from to) = refl
+long_two (Secant first second) = refl
+long_two (NewtonRaphson start) = refl
+long_two (Polynom from to) = refl
+
+-- at most two
+pub few_starts : (number : ℕ) {count : ℕ} → count ≡ start_count number → count ≤ 2
+unfolding start_count
+few_starts number e = rw e (go (eqb number 4))
+  where
+    go : (b : Bool) → cond b 1 2 ≤ 2
+    go true = omega arith
+    go false = omega arith
+
+own : (m : Method) → take (start_count (method_number m)) (two_starts m) ≡ starts_of m
+unfolding start_count
+own (Brent from to) = refl
+own (RegulaFalsi from to) = refl
+own (Secant first second) = refl
+own (NewtonRaphson start) = refl
+own (Polynom from to) = refl
+
+pub within_two : (m : Method) (number : ℕ) {count : ℕ} {two : List Float} → count ≡ start_count number → two ≡ two_starts m → count ≤ length two
+within_two m number f g = rw (g, long_two m) (few_starts number f)
+
+-- as many of the two as its number says
+pub own_starts : (m : Method) {number count : ℕ} {two : List Float} → number ≡ method_number m → count ≡ start_count number → two ≡ two_starts m → take count two ≡ starts_of m
+own_starts m e f g = rw (g, f, e) (own m)
 
 -- ---- by the method's variant
 

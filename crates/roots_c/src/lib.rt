@@ -75,7 +75,7 @@ fn copied(a: &[f64]) -> [f64; 16]
 {
     let mut own = [0.0f64; 16];
     let n = own.len().min(a.len());
-    own[..n].copy_from_slice(&a[..n]);
+    rows::copy(&a[..n], &mut own);
     own
 }
 

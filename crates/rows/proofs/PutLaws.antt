@@ -1,7 +1,8 @@
 -- Bytes put one after the other, and a number group by group.
-use Rattle.std.specs.Prelude.{ℕ, zero, suc, ◌+◌, ◌/◌, ◌%◌, ◌^◌, ◌≤◌, ◌<◌, List, [], ◌∷◌, ◌++◌, ◌≡◌, refl, length, take, drop, set}
-use Rattle.std.proofs.Common.{add-one, arith, append_assoc, append-nil, sym, ap, ◌∙◌, length-append, length-drop, take-append-drop, length-take-le, take_at, drop_at, drop-drop}
+use Rattle.std.specs.Prelude.{ℕ, zero, suc, ◌+◌, ◌/◌, ◌%◌, ◌^◌, ◌≤◌, ◌<◌, List, [], ◌∷◌, ◌++◌, ◌≡◌, refl, length, take, drop, set, get_or}
+use Rattle.std.proofs.Common.{add-one, arith, append_assoc, append-nil, sym, ap, ◌∙◌, length-append, length-drop, take-append-drop, length-take-le, take_all, take_at, drop_at, drop-drop}
 use Rattle.std.proofs.lemmas.List.{set_split}
+use Rattle.std.proofs.Math.Seq.{take-suc}
 use Rattle.rows.specs.Groups.{groups_in, groups}
 use Rattle.rows.specs.GroupLaws.{limit_in}
 use Rattle.rows.proofs.GroupLaws.{groups_last, groups_on, shorter, ten_at_most}
@@ -9,6 +10,30 @@ use Rattle.rows.specs.Layouts.{spell}
 use Rattle.rows.proofs.LayoutLaws.{spell_append, small_append}
 use Rattle.rows.specs.Puts.{Put, PutRow}
 use Rattle.rows.specs.PutLaws.{Putting}
+
+-- ---- items copied
+
+-- one more of t stands at the start
+pub copy_on : {X : Type 0} (t before now : List X) (i : ℕ) (x : X) → now ≡ take i t ++ drop i before → length t ≤ length before → i < length t → x ≡ get_or t i x → set now i x ≡ take (i + 1) t ++ drop (i + 1) before
+copy_on t before now i x e l h f = set_split now i x room ∙ rw (front, behind, add-one i, take-suc t i x h, ← f) (sym (append_assoc (take i t) (x ∷ []) (drop (suc i) before)))
+  where
+    count : length (take i t) ≡ i
+    count = length-take-le i t (omega arith)
+
+    room : i < length now
+    room = rw (e, length-append, count, length-drop) (omega arith)
+
+    front : take i now ≡ take i t
+    front = rw e (take_at (take i t) (drop i before) i count)
+
+    behind : drop (suc i) now ≡ drop (suc i) before
+    behind = rw (← (add-one i)) (sym (drop-drop 1 i now) ∙ ap (drop 1) off ∙ drop-drop 1 i before)
+      where
+        off : drop i now ≡ drop i before
+        off = rw e (drop_at (take i t) (drop i before) i count)
+
+pub copy_done : {X : Type 0} (t before now : List X) (i : ℕ) → now ≡ take i t ++ drop i before → length t ≤ i → i ≤ length t → now ≡ t ++ drop (length t) before
+copy_done t before now i e h l = e ∙ rw (take_all i t h) (ap (λ (j : ℕ). t ++ drop j before) (omega arith))
 
 -- ---- bytes
 
@@ -106,6 +131,3 @@ number_near a at n x = let e = x.ends in let l = ten_at_most n in omega arith
 
 pub row_both : {a b c : List ℕ} {at p r : ℕ} {l m : List ℕ} → PutRow a at l b p → PutRow b p m c r → PutRow a at (l ++ m) c r
 row_both {l = l} {m = m} x y = record { put = rw (spell_append l m) (put_both x.put y.put); small = small_append l m x.small y.small }
-
-pub row_length : {a b : List ℕ} {at p : ℕ} {l : List ℕ} → PutRow a at l b p → length b ≡ length a
-row_length x = put_length x.put

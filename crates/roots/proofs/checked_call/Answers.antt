@@ -1,4 +1,3 @@
-use borrow.Author.Tests.{not-true, not-false}
 use Rattle.std.proofs.Common.{ap, sym, ◌∙◌}
 use Rattle.roots.specs.Calls.{all_finite, found_under}
 use Rattle.roots.proofs.CallLaws.{two_finite, count_refused, coefficient_refused, start_refused, by_rule, rule_refused, limit_kept}

@@ -4,4 +4,4 @@ use Rattle.roots_c.proofs.copied.Goals as goal
 
 pub returns : goal.returns
 unfolding padded
-returns c = rw (c.copy_from_slice.ensures.after, c.min-n.ensures, take_min, length-take)
+returns c = rw (c.copy.ensures, c.min-n.ensures, take_min, length-take)

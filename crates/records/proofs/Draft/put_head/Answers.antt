@@ -7,4 +7,4 @@ pub returns-then-kind-eq1 : goal.returns-then-kind-eq1
 returns-then-kind-eq1 c = record { put = old_head_put _ _ _ _ c.if-kind-eq1.true (c.from-number.ensures ∙ c.number.ensures) c.put_number.ensures.put; near = search rules }
 
 pub returns : goal.returns
-returns c = record { put = new_head_put _ _ _ _ c.if-kind-eq1.false (c.from-number.ensures ∙ c.number.ensures) c.put_number-2.ensures.put c.put_number-3.ensures.put c.put_number-4.ensures.put; near = search rules }
+returns c = record { put = new_head_put _ _ _ _ c.if-kind-eq1.false (c.from-number.ensures ∙ c.number.ensures) c.put_numbers.ensures.put; near = search rules }
