@@ -39,7 +39,7 @@ fn put_call(out: &mut [u8], at: usize, content: &Record) -> usize
     ensures put { Put out.old at (call_text content.now) out.new result }
     ensures upper_bound { result ≤ at + 403 }
 {
-    let p = text::put_decimal(out, at, content.method.number() as u64, b' ');
+    let p = text::put_decimal(out, at, u64::from(content.method.number()), b' ');
     let q = text::put_decimal(out, p, content.count as u64, b' ');
     let own = content.own_count();
     let t = text::put_doubles(out, q, &content.coefficients[..own]);
@@ -65,7 +65,7 @@ pub fn put_refused(out: &mut [u8], at: usize, number: u8) -> usize
     ensures upper_bound { result ≤ at + 29 }
 {
     let p = text::put(out, at, b"refused ");
-    text::put_decimal(out, p, number as u64, b'\n')
+    text::put_decimal(out, p, u64::from(number), b'\n')
 }
 
 // The line of the record at the start of the bytes, or of its refusal.
