@@ -22,7 +22,8 @@ pub struct Arranged {
 }
 
 // The pair a and b, the b before as c, the point before that as d, and whether the last step was a bisection.
-// d is kept through a bisection, as in the Rust, though the next step then reads b and c: an Option would hide that.
+// d is kept through a bisection, as in the Rust, though the next step then reads b and c: an Option would hide that. So would one
+// in the flag's place: what stands beside it holds under both.
 #[derive(Clone, Copy)]
 pub struct Brent {
     pub a: Sample,
@@ -332,6 +333,7 @@ impl Search for Steps {
 }
 
 // A root by Brent's method between two points: the opening, and the rounds from there.
+// Two lines in each method, since their openings take different things.
 pub fn find_root(a: &[f64], stop: StopRule, from: f64, to: f64) -> Outcome
     requires { stop.limit ≤ greatest_limit }
     ensures { result ≡ brent a.now stop from to }

@@ -77,6 +77,7 @@ impl Progress {
     }
 
     // One value more. The room that is left is 3, 2 or 1 within a turn, so it is asked at each count and is no invariant of Progress.
+    // This and the next two differ in what grows, a line each.
     pub fn valued(self) -> Progress
         requires { Room 1 self }
         ensures { result ≡ valued_of self }

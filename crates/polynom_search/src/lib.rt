@@ -202,6 +202,7 @@ impl Search for Steps {
 }
 
 // A root by the polynomial search from two starts: the opening, and the rounds from there.
+// Two lines in each method, since their openings take different things.
 pub fn find_root(a: &[f64], stop: StopRule, from: f64, to: f64) -> Outcome
     requires { stop.limit ≤ greatest_limit }
     ensures { result ≡ polynom_search a.now stop from to }

@@ -249,6 +249,7 @@ impl Search for Steps {
 }
 
 // A root by the Illinois form of regula falsi between two points: the opening, and the steps from there.
+// Two lines in each method, since their openings take different things.
 pub fn find_root(a: &[f64], stop: StopRule, from: f64, to: f64) -> Outcome
     requires { stop.limit ≤ greatest_limit }
     ensures { result ≡ regula_falsi a.now stop from to }

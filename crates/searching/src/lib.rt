@@ -67,6 +67,7 @@ impl<S> Turn<S> {
 // ---- the loop of turns
 
 // A method: its state, and one turn of it. In a struct with the reference, clauses would say `lent.entry.a.now` for `a.now`: no plainer.
+// The steps of a turn are each method's own, also where two are alike: each evaluation is taken apart where it is made.
 pub trait Search {
     type State: Copy;
 

@@ -135,6 +135,7 @@ impl Search for Steps {
 }
 
 // A root by the secant method from two points: the opening, and the steps from there.
+// Two lines in each method, since their openings take different things.
 pub fn find_root(a: &[f64], stop: StopRule, first: f64, second: f64) -> Outcome
     requires { stop.limit ≤ greatest_limit }
     ensures { result ≡ secant a.now stop first second }
