@@ -42,7 +42,7 @@ pub fn read_doubles(s: &[u8], at: usize, k: usize, a: &mut [f64]) -> Option<usiz
     Some(p)
 }
 
-// The method's number, if the field is one.
+// The method's number, if the field is one. A number on its way, as `Method::start_count` and `Method::numbered` take it.
 #[tactic(auto, using(std::proofs::lemmas::Bool::Decides::nat_tests), unfolding(crate::specs::Calls::method_number))]
 fn method_number(t: &[u8]) -> Option<u8>
     ensures { result ≡ method_number t.now }
@@ -101,7 +101,8 @@ fn with_count(s: &[u8], m: u8, a: &mut [f64]) -> Result<Call, Fault>
     with_doubles(&s[f.to..], m, count as usize, a)
 }
 
-// What the line asks for, with the coefficients in a, which holds up to 40 of them, two starts and two tolerances.
+// What the line asks for, with the coefficients in a, which holds up to 40 of them, two starts and two tolerances. It takes a slice
+// of 44 or more, and so do its parts: an array of 44 would ask more of callers.
 pub fn read(s: &[u8], a: &mut [f64]) -> Result<Call, Fault>
     requires { 44 ≤ length a.old }
     ensures { ReadAs (asked_of s.now) (line_fills s.now a.old) a.new result }

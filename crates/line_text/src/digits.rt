@@ -10,7 +10,7 @@ pub fn digit(b: u8) -> Option<u64>
     Some(u64::from(d))
 }
 
-// The number whose digits in a base are t, if they are digits and a u64 holds it.
+// The number whose digits in a base are t, if they are digits and a u64 holds it. No `from_str_radix`, which takes a sign, and text.
 #[tactic(auto, using(crate::specs::DigitLaws::ends))]
 pub fn number_in(base: u64, t: &[u8]) -> Option<u64>
     requires { (2 ≤ base) × (base ≤ 16) }

@@ -3,7 +3,7 @@ ghost use Rattle.std.specs.Prelude.{◌≡◌, ◌≤◌, eqb, not, length};
 ghost use Rattle.std.specs.List.{position_or_len};
 ghost use Rattle.line_text.specs.Fields.{Field};
 
-// A part of a line, from one index up to another. No Range, which is no Copy and may begin behind its end.
+// A part of a line, from one index up to another. No Range, which is no Copy.
 #[derive(Clone, Copy)]
 pub struct Span {
     pub from: usize,

@@ -51,8 +51,8 @@ impl Replies for Answered {
     }
 }
 
-// The line's length without a carriage return at its end. No slice: no contract fixes the address of one, and each has one result.
-pub fn trimmed_length(s: &[u8]) -> usize
+// The line's length without a carriage return at its end.
+fn trimmed_length(s: &[u8]) -> usize
     ensures { (result ≤ length s.now) × (take result s.now ≡ trimmed s.now) }
 {
     s.strip_suffix(b"\r").unwrap_or(s).len()

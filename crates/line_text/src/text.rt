@@ -110,7 +110,8 @@ pub fn put_outcome(out: &mut [u8], at: usize, outcome: Outcome) -> usize
 }
 
 impl Fault {
-    // No Display: what a formatter writes has no contract on its bytes, and a reply promises each of them.
+    // No Display, here and in all that puts text: a reply is put at an index of a lent buffer, as `put_fault` and its like promise,
+    // and a writer over that would ask each contract for a clause more; doubles by their digits have none.
     fn text(self) -> &'static [u8]
         ensures value { result.now ≡ fault_text self }
         ensures upper_bound { length result.now ≤ 15 }

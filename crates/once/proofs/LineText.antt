@@ -10,7 +10,6 @@ use Rattle.line_text.proofs.digits.decimal.Reads as decimal-reads
 use Rattle.line_text.proofs.digits.word.Reads as word-reads
 use Rattle.line_text.proofs.fields.next.Reads as next-reads
 use Rattle.line_text.proofs.input.fed.Reads as fed-reads
-use Rattle.line_text.proofs.reply.trimmed_length.Reads as trimmed-length-reads
 use Rattle.line_text.proofs.reply.put_line.Reads as put-line-reads
 use Rattle.line_text.proofs.text.put.Reads as put_reads
 use Rattle.line_text.proofs.text.put_byte.Reads as put-byte-reads
@@ -73,9 +72,6 @@ pub fed_out : (R A B C : _) → Last {B = List ℕ} (fed-reads.Learnt R A B C) (
 fed_out R A B C k a x y e f p q = replies_fixed (p.1.0 ∙ sym q.1.0) p.0 q.0
 
 -- ---- reply: the length, and where a reply ends, then the buffer `out`, whatever a program replies
-
-pub trimmed_length_once : One trimmed-length-reads.Learnt
-trimmed_length_once k a x y e f p q = sym (length-take-le x a.0.now p.0) ∙ ap length (p.1 ∙ sym q.1) ∙ length-take-le y a.0.now q.0
 
 pub put_line_once : (R A B C : _) → One (put-line-reads.Learnt R A B C)
 put_line_once R A B C k a x y e f p q = p.0.ends ∙ sym q.0.ends

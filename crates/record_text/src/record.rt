@@ -58,7 +58,7 @@ fn put_record(out: &mut [u8], at: usize, count: usize, content: &Record) -> usiz
     text::put_outcome(out, t, content.outcome)
 }
 
-// The line of a refusal.
+// The line of a refusal, by any number: an answer on its way to a record may carry one that is none.
 pub fn put_refused(out: &mut [u8], at: usize, number: u8) -> usize
     requires { at + 29 ≤ length out.old }
     ensures put { Put out.old at (refused_text number) out.new result }

@@ -51,6 +51,7 @@ pub enum Refusal {
 }
 
 impl Refusal {
+    // Its number among the refusals: a match, as for those of a search.
     pub fn number(self) -> u8
         ensures { result ≡ refusal_number self }
     {
@@ -97,7 +98,7 @@ struct Call {
     rule: Rule,
 }
 
-// The kind of an answer: 0, 1 or 16 to 19.
+// The kind of an answer: 0, 1 or 16 to 19, a number here as it stands in the bytes.
 #[tactic(auto, unfolding(crate::specs::Records::is_kind, crate::specs::Records::between))]
 fn is_kind(n: u64) -> bool
     ensures { result ≡ is_kind n }
@@ -439,7 +440,7 @@ impl Draft {
         self.put_doubles(&numbers[..number_count(kind)]);
     }
 
-    // The whole row, right or not.
+    // The whole row, right or not, into an empty draft: then there is room for it.
     fn put_record(&mut self, content: &Record)
         requires { self.old.length + 330 ≤ 330 }
         ensures { Puts 330 (row_of content.now) self.old self.new }

@@ -20,8 +20,8 @@ pub struct End {
     pub weight: f64,
 }
 
-// Which end the step before replaced.
-#[derive(Clone, Copy)]
+// Which end the step before replaced, by the Rust's names, and no Option: the Rust's `edge ==` becomes a match of three.
+#[derive(Clone, Copy, Debug, PartialEq, Eq)]
 pub enum Edge {
     EdgeX1,
     NoEdge,
@@ -144,7 +144,8 @@ fn left_replaced(s: Illinois, p: Sample) -> Illinois
     }
 }
 
-// The sample takes the right end's place. Each side has its own function: one with a side to choose would say no less.
+// The sample takes the right end's place. Each side has its own function: one for both would take two ends and a side, and give
+// them back in an order that its callers turn.
 fn right_replaced(s: Illinois, p: Sample) -> Illinois
     ensures { result ≡ right_replaced s p }
 {

@@ -265,7 +265,7 @@ fn main(rt: HostRuntime) {
             offset: 0,
         },
     };
-    for _i in 0..MOST_BLOCKS {
+    for _ in 0..MOST_BLOCKS {
         let Some(course) = block.read_on(rt.stdin()) else {
             return;
         };

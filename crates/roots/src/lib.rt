@@ -140,7 +140,8 @@ fn found_by(a: &[f64], stop: StopRule, method: Method) -> Outcome
     }
 }
 
-// The stop rule of a call that may be searched, or the first of what is wrong with it: 1 to 5 in that order.
+// The stop rule of a call that may be searched, or the first of what is wrong with it: 1 to 5 in that order. No struct of a call's
+// parts: `search` takes them one by one, as README and docs/MIGRATING.md have it, and hands them on once.
 fn checked_call(
     a: &[f64],
     method: Method,

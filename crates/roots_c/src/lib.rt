@@ -79,7 +79,8 @@ fn copied(a: &[f64]) -> [f64; 16]
     own
 }
 
-// The answer of a kind with its numbers. What is no kind becomes a refusal that no record has.
+// The answer of a kind with its numbers. What is no kind becomes a refusal that no record has. Not one with `answer_of` of records,
+// which is of kinds alone and says so.
 #[tactic(auto, unfolding(crate::specs::FlatRecords::answer_from, records::specs::Records::between))]
 fn answer_from(kind: u64, x: f64, y: f64, z: f64) -> Answer
     ensures { result ≡ answer_from kind x y z }
@@ -104,6 +105,7 @@ fn mark_from(mark: u64) -> u8
     mark.min(3) as u8
 }
 
+// By the fields' names, here and where records read it: a function of four bare numbers could take one tally for another.
 fn progress_from(steps: u64, values: u64, derivatives: u64, mark: u64) -> Progress
     ensures { result ≡ progress_of steps values derivatives (mark_from mark) }
 {
@@ -126,7 +128,7 @@ fn refusal_of(written: Result<usize, Refusal>) -> u64
     }
 }
 
-// Writes the record, unless the method is unknown.
+// Writes the record, unless the method is unknown. The parts are apart, as C hands them over, and become a Record here.
 fn write_chosen(
     record_kind: u64,
     chosen: Option<Method>,

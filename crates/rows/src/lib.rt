@@ -79,8 +79,8 @@ pub fn put(n: u64, out: &mut [u8], at: usize) -> usize
     p + 1
 }
 
-// Copies t to the start of out. Not by `copy_from_slice`: that would be a memcpy, which the archive may not call, and there it
-// took five instructions for each byte, a quarter of all that writing a record took.
+// Copies t to the start of out. Not by `copy_from_slice`: that would be a memcpy, which the archive may not call, and what it has
+// in its place took five instructions for each byte, a quarter of all that writing a record took.
 pub fn copy<T: Copy>(t: &[T], out: &mut [T])
     requires { length t.now ≤ length out.old }
     ensures { out.new ≡ t.now ++ drop (length t.now) out.old }

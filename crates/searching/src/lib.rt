@@ -37,7 +37,7 @@ impl<S> Turn<S> {
         }
     }
 
-    // The search is refused with this number.
+    // The search is refused with this number: a plain one, as `Answer::Refused` has it.
     pub fn refused(number: u8, progress: Progress) -> Turn<S>
         ensures { viewed result ≡ (ended (Refused number), progress) }
     {

@@ -12,7 +12,8 @@ pub struct Tolerances {
     pub point: f64,
 }
 
-// The two tolerances, and the greatest number of steps. Theorems speak of rules of any limit (`found_at`, `turns_of`), so 400 is no invariant here: find_root asks for it.
+// The two tolerances, and the greatest number of steps. `found_at` and `turns_of` are of rules of any limit, and so are the theorems over them: 400 is no invariant
+// here, and find_root asks for it, as docs/PROMISES.md says.
 #[derive(Clone, Copy)]
 pub struct StopRule {
     pub tolerances: Tolerances,
@@ -27,7 +28,7 @@ pub enum BadRule {
 }
 
 impl BadRule {
-    // Its number among the refusals of a search.
+    // Its number among the refusals of a search. A match, as in `BadCall`, whose number this is where a rule is bad.
     pub fn number(self) -> u8
         ensures { result ≡ bad_rule_number self }
     {
