@@ -1,27 +1,20 @@
--- The test `x != x`, the patterns of a NaN, and a pattern's low 63 bits as a signed number. Assumes nothing.
+-- The patterns of a NaN, and a pattern's low 63 bits as a signed number. Assumes nothing.
 use mathlib.Core.Path.{◌≡◌, refl, sym, ap, ◌∙◌}
 use Prim.Native.Nat.{ℕ, zero, suc, ◌/◌, ◌%◌, ◌≤◌, ◌<◌, ◌^◌}
 use native.Mathlib.Nat.{le_of_lt, mod-lt}
 use native.Mathlib.Omega.{arith}
-use mathlib.Core.Bool.{true, false, not, true≢false}
+use mathlib.Core.Bool.{true, not}
 use lib.Dec.{T}
 use lib.Bits.{bit_and, and_mask, mask_lt}
 use lib.Pow.{pow_pos}
 use lib.IntN.{pos, neg_ℤ, ◌-ℤ◌, +ℤ_idl}
-use lib.Ieee.{Float, nan, inf, fin, binary64, of_bits, to_bits, nan_bits, is_nan, ne}
+use lib.Ieee.{Float, nan, inf, fin, binary64, of_bits, to_bits, nan_bits, is_nan}
 use lib.Ieee.Bits.{nan_bits_is, nan_bits_above}
-use lib.Ieee.Compare.{differs_from_itself}
 use mir.Syntax.{w64}
 use mir.Val.{SFits, to_z, of_z}
 use mir.Facts.{to_z_pos, to_z-of_z}
 use borrow.Author.Tests.{le-leb, lt-leb, le-ltb, lt-ltb}
 use Rattle.doubles.specs.Doubles.{signed63}
-
-pub not_nan : (x : Float) → ne x x ≡ false → is_nan x ≡ false
-unfolding ne is_nan
-not_nan nan h = absurd (true≢false h)
-not_nan (inf s) h = refl
-not_nan (fin s m e) h = refl
 
 -- Below and at an infinity's bits there is no NaN.
 pub no_nan_pattern : (n : ℕ) → n % 0x8000_0000_0000_0000 ≤ 0x7ff0_0000_0000_0000 → T (not (nan_bits binary64 n))
@@ -38,9 +31,9 @@ nan_pattern n h =
     only_nan (of_bits binary64 n)
     (sym (nan_bits_is binary64 n) ∙ nan_bits_above binary64 n ∙ lt-ltb 0x7ff0_0000_0000_0000 (n % 0x8000_0000_0000_0000) h)
 
-pub nan_written : (x : Float) → ne x x ≡ true → 0x7ff8_0000_0000_0000 ≡ to_bits binary64 x
+pub nan_written : (x : Float) → true ≡ is_nan x → 0x7ff8_0000_0000_0000 ≡ to_bits binary64 x
 unfolding to_bits
-nan_written x h = rw (differs_from_itself x (rw h tt))
+nan_written x h = rw (← (only_nan x (sym h)))
 
 neg_small : (n : ℕ) → n < 2 ^ 63 → SFits w64 (neg_ℤ (pos n))
 neg_small zero h = record { sfits = h }

@@ -23,7 +23,7 @@ pub fn from_pattern(n: u64) -> f64
 pub fn pattern(x: f64) -> u64
     ensures { result ≡ to_bits binary64 x }
 {
-    if x != x {
+    if x.is_nan() {
         return 0x7ff8_0000_0000_0000;
     }
     f64::to_bits(x)
@@ -76,7 +76,7 @@ pub fn opposite_sign(a: f64, b: f64) -> bool
 pub fn order_of(x: f64) -> i64
     ensures { result ≡ order_of x }
 {
-    if x != x {
+    if x.is_nan() {
         return 0;
     }
     let bits = f64::to_bits(x);

@@ -81,6 +81,7 @@ pub fn put(n: u64, out: &mut [u8], at: usize) -> usize
 
 // Copies t to the start of out. Not by `copy_from_slice`: that would be a memcpy, which the archive may not call, and what it has
 // in its place took five instructions for each byte, a quarter of all that writing a record took.
+// Nor by `out.iter_mut().zip(t)`, tried: behind that loop a proof knows how long out is, and not what it holds.
 pub fn copy<T: Copy>(t: &[T], out: &mut [T])
     requires { length t.now ≤ length out.old }
     ensures { out.new ≡ t.now ++ drop (length t.now) out.old }
