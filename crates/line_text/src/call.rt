@@ -18,7 +18,7 @@ pub enum Fault {
 }
 
 // A call, but for its coefficients: those are the first `count` doubles of an array beside it, which the caller lends, since there
-// is no heap.
+// is no heap. A record's call has a copy of them, and its kind.
 #[derive(Clone, Copy)]
 pub struct Call {
     pub method: Method,

@@ -81,7 +81,7 @@ struct Head {
     method: u8,
 }
 
-// The method with its starts, the tolerances and the limit.
+// The method with its starts, the tolerances and the limit. Not one with the call of a line, which has no copy of its coefficients.
 #[derive(Clone, Copy)]
 struct Rule {
     method: Method,
