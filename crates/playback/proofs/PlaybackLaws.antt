@@ -1,8 +1,9 @@
 -- How a playback goes on over the bytes, record by record.
 use Prim.Native.Nat.{ℕ, zero, suc, ◌+◌, ◌-◌, ◌≤◌, ◌<◌}
-use Rattle.std.proofs.Common.{add-one, arith, ◌∙◌, drop-drop, drop-cons, eq-eqb, ne_eqb}
-use Rattle.std.specs.Prelude.{cond, ◌≡◌, eqb, drop, get_or, Option, None, Some, Result, Ok, Err}
+use Rattle.std.proofs.Common.{arith, ◌∙◌, drop-drop}
+use Rattle.std.specs.Prelude.{◌≡◌, drop, Option, None, Some, Result, Ok, Err}
 use mathlib.Core.List.{List, [], ◌∷◌}
+use mathlib.Core.Logic.{◌⊎◌, inl, inr}
 use Rattle.std.proofs.Math.Path.{refl, ap, sym}
 use Rattle.std.proofs.Math.ListN.{length, length-drop}
 use Rattle.simple_convergency.specs.Stop.{most_coefficients}
@@ -13,12 +14,12 @@ use Rattle.records.proofs.ReadingLaws.{tail_is, read_length, read_within, read_f
 use Rattle.records.specs.declared.Reading.{Reading}
 use Rattle.records.specs.declared.Refusal.{Refusal}
 use Rattle.records.specs.declared.Refusal.TheVariants.{NoRecord}
-use Rattle.playback.specs.Playback.{in_order, field_at, field_number, difference_in, first_difference, compared_in, Series, none, led, onward, series_within, series_in, settled, verdict_over, played_from, played_back}
-use Rattle.playback.specs.declared.Field.TheVariants.{Kind}
+use Rattle.playback.specs.Playback.{field_at, field_number, difference_in, compared_in, Series, none, led, onward, series_within, series_in, settled, verdict_over, played_from, played_back}
+use Rattle.playback.specs.declared.Field.{Field}
 use Rattle.playback.specs.declared.Difference.{Difference}
 use Rattle.playback.specs.declared.Playback.{Playback}
 use Rattle.playback.specs.declared.Playback.TheVariants as playback
-use Rattle.playback.specs.PlaybackLaws.{Comparing, Playing}
+use Rattle.playback.specs.PlaybackLaws.{Playing}
 
 -- ---- field by field
 
@@ -34,19 +35,14 @@ numbered_in_order (suc (suc (suc (suc (suc (suc zero)))))) h = refl
 numbered_in_order (suc (suc (suc (suc (suc (suc (suc zero))))))) h = refl
 numbered_in_order (suc (suc (suc (suc (suc (suc (suc (suc n)))))))) h = absurd (omega arith)
 
-pub compare_starts : (recorded present : List ℕ) → Comparing recorded present 0
-unfolding first_difference
-compare_starts recorded present = record { count = omega arith; is = refl }
-
-module _ (recorded present : List ℕ) (l : length recorded ≡ 8) (m : length present ≡ 8) {i : ℕ} (g : Comparing recorded present i) (h : i < 8) where
-  one_off : difference_in (drop i in_order) (drop i recorded) (drop i present) ≡ cond (eqb (get_or recorded i 0) (get_or present i 0)) (difference_in (drop (i + 1) in_order) (drop (i + 1) recorded) (drop (i + 1) present)) (Some (record { field = get_or in_order i Kind; recorded = get_or recorded i 0; present = get_or present i 0 }))
-  one_off = rw (add-one i, drop-cons in_order i Kind h, drop-cons recorded i 0 (omega (arith, l, h)), drop-cons present i 0 (omega (arith, m, h))) refl
-
-  pub compare_on : get_or recorded i 0 ≡ get_or present i 0 → Comparing recorded present (i + 1)
-  compare_on e = record { count = omega arith; is = sym (one_off ∙ rw (eq-eqb (get_or recorded i 0) (get_or present i 0) e) refl) ∙ g.is }
-
-  pub compare_differs : ¬ (get_or recorded i 0 ≡ get_or present i 0) → Some (record { field = get_or in_order i Kind; recorded = get_or recorded i 0; present = get_or present i 0 }) ≡ first_difference recorded present
-  compare_differs e = sym (one_off ∙ rw (ne_eqb (get_or recorded i 0) (get_or present i 0) e) refl) ∙ g.is
+-- where one of the three lists is at its end nothing differs any more
+pub none_left : (fields : List Field) (recorded present : List ℕ) → (length fields ≡ 0) ⊎ ((length recorded ≡ 0) ⊎ (length present ≡ 0)) → None ≡ difference_in fields recorded present
+none_left [] recorded present e = refl
+none_left (f ∷ fields) [] present e = refl
+none_left (f ∷ fields) (m ∷ recorded) [] e = refl
+none_left (f ∷ fields) (m ∷ recorded) (n ∷ present) (inl e) = absurd (omega (arith, e))
+none_left (f ∷ fields) (m ∷ recorded) (n ∷ present) (inr (inl e)) = absurd (omega (arith, e))
+none_left (f ∷ fields) (m ∷ recorded) (n ∷ present) (inr (inr e)) = absurd (omega (arith, e))
 
 -- ---- the records in bytes
 

@@ -106,12 +106,12 @@ fn fields_of(outcome: Outcome) -> [u64; 8]
 fn first_difference(recorded: [u64; 8], present: [u64; 8]) -> Option<Difference>
     ensures { result ≡ first_difference recorded present }
 {
-    for (i, field) in Field::IN_ORDER.iter().enumerate() {
-        if recorded[i] != present[i] {
+    for (field, (recorded, present)) in Field::IN_ORDER.iter().zip(recorded.iter().zip(&present)) {
+        if recorded != present {
             return Some(Difference {
                 field: *field,
-                recorded: recorded[i],
-                present: present[i],
+                recorded: *recorded,
+                present: *present,
             });
         }
     }

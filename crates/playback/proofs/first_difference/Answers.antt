@@ -1,11 +1,19 @@
-use Rattle.playback.proofs.PlaybackLaws.{compare_starts, compare_on, compare_differs}
+use Rattle.std.proofs.Common.{rules}
+use mathlib.Core.Logic.{inl, inr}
+use Rattle.std.proofs.Math.Path.{◌∙◌}
+use Rattle.playback.specs.Playback.{first_difference}
+use Rattle.playback.proofs.PlaybackLaws.{none_left}
 use Rattle.playback.proofs.first_difference.Goals as goal
 
-pub loop-i-init : goal.loop-i-init
-loop-i-init c = search compare_starts
+pub loop-field-init : goal.loop-field-init
+unfolding first_difference
+loop-field-init c = search rules
 
-pub returns-then-recorded-i : goal.returns-then-recorded-i
-returns-then-recorded-i c = search compare_differs
-
-pub loop-i-preserved : goal.loop-i-preserved
-loop-i-preserved c = search compare_on
+pub returns : goal.returns
+returns c = elim c.in-None.ensures.steps [
+  | inl x ↦ none_left _ _ _ (inl x.1.0) ∙ c.loop-field.invariant
+  | inr x ↦ elim x.1 [
+    | inl y ↦ none_left _ _ _ (inr (inl y.1.0)) ∙ c.loop-field.invariant
+    | inr z ↦ none_left _ _ _ (inr (inr z.1.0)) ∙ c.loop-field.invariant
+  ]
+]
