@@ -4,8 +4,8 @@ ghost use Rattle.line_text.specs.Inputs.{Fine, Taken, Fed, stops_at};
 
 use crate::reply::{self, Replies};
 
-// Where things stand between two bytes. The line and the replies stand in buffers of a program, in fixed memory with no heap, and
-// beside them: `fed`, which docs/PROMISES.md names, takes lent buffers of any length.
+// Where things stand between two bytes. The line and the replies are no fields: `fed`, which docs/PROMISES.md names, takes lent
+// buffers of any length. A program has them in fixed memory with no heap.
 #[derive(Clone, Copy, Default)]
 pub struct State {
     // How many bytes of the present line are kept, and whether there were more than can be: no Option, since they count under both.

@@ -51,7 +51,7 @@ pub enum Refusal {
 }
 
 impl Refusal {
-    // Its number among the refusals: a match, as for those of a search.
+    // Its number among the refusals: a match, as for those of a search, of which one has data.
     pub fn number(self) -> u8
         ensures { result ≡ refusal_number self }
     {
@@ -81,7 +81,8 @@ struct Head {
     method: u8,
 }
 
-// The method with its starts, the tolerances and the limit. Not one with the call of a line, which has no copy of its coefficients.
+// The method with its starts, the tolerances and the limit. Not in the call of a line too: there `call.tolerances` would become
+// `call.rule.tolerances`, no plainer.
 #[derive(Clone, Copy)]
 struct Rule {
     method: Method,
@@ -89,7 +90,8 @@ struct Rule {
     limit: u64,
 }
 
-// A call: of the coefficients the first `count` were read, and zeros stand behind them, in fixed memory with no heap.
+// A call: of the coefficients the first `count` were read, and zeros stand behind them, in fixed memory with no heap. Not one with
+// the call of a line, which lends its coefficients.
 #[derive(Clone, Copy)]
 struct Call {
     kind: u64,
@@ -98,7 +100,8 @@ struct Call {
     rule: Rule,
 }
 
-// The kind of an answer: 0, 1 or 16 to 19, a number here as it stands in the bytes.
+// The kind of an answer: 0, 1 or 16 to 19, a number here as it stands in the bytes: an enum would be one match more, before those
+// of `number_count` and `answer_of`.
 #[tactic(auto, unfolding(crate::specs::Records::is_kind, crate::specs::Records::between))]
 fn is_kind(n: u64) -> bool
     ensures { result ≡ is_kind n }

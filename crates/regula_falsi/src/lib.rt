@@ -20,8 +20,9 @@ pub struct End {
     pub weight: f64,
 }
 
-// Which end the step before replaced, by the Rust's names, and no Option: the Rust's `edge ==` becomes a match of three.
-#[derive(Clone, Copy, Debug, PartialEq, Eq)]
+// Which end the step before replaced. No Option of an end: the definitions `right_after` and `left_after`, and the theorems over
+// them, take these three, by the Rust's names.
+#[derive(Clone, Copy)]
 pub enum Edge {
     EdgeX1,
     NoEdge,

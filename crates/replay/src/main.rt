@@ -73,6 +73,7 @@ fn put_difference(out: &mut [u8], at: usize, difference: Difference) -> usize
     put_value(out, q, field, difference.present, b'\n')
 }
 
+// Printed by hand, as line_text does it, for the reason at its `Fault::text`.
 fn put_verdict(out: &mut [u8], verdict: Playback) -> usize
     requires { longest_line ≤ length out.old }
     ensures put { Put out.old 0 (verdict_text verdict) out.new result }

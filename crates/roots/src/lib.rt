@@ -141,7 +141,7 @@ fn found_by(a: &[f64], stop: StopRule, method: Method) -> Outcome
 }
 
 // The stop rule of a call that may be searched, or the first of what is wrong with it: 1 to 5 in that order. No struct of a call's
-// parts: `search` takes them one by one, as README and docs/MIGRATING.md have it, and hands them on once.
+// parts: `search` takes them one by one, as README has it, and hands them on once.
 fn checked_call(
     a: &[f64],
     method: Method,
@@ -189,7 +189,7 @@ pub fn search_plain(a: &[f64], method: Method, eps: f64) -> Outcome
     search_simple(a, method, eps, StopRule::PLAIN_LIMIT)
 }
 
-// By the names that the Rust has and README gives: each is `search_simple` with its method.
+// By the Rust's names, of which README speaks: each is `search_simple` with its method.
 pub fn find_root_brent(from: f64, to: f64, a: &[f64], eps: f64, limit: u64) -> Outcome
     ensures { result ≡ answer a.now (Method.Brent from to) (one_eps eps) limit }
 {

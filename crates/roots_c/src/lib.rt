@@ -80,7 +80,7 @@ fn copied(a: &[f64]) -> [f64; 16]
 }
 
 // The answer of a kind with its numbers. What is no kind becomes a refusal that no record has. Not one with `answer_of` of records,
-// which is of kinds alone and says so.
+// which is of kinds alone and says so. The numbers are apart, as in the definition, on which those of a record written from C rest.
 #[tactic(auto, unfolding(crate::specs::FlatRecords::answer_from, records::specs::Records::between))]
 fn answer_from(kind: u64, x: f64, y: f64, z: f64) -> Answer
     ensures { result ≡ answer_from kind x y z }
@@ -105,7 +105,7 @@ fn mark_from(mark: u64) -> u8
     mark.min(3) as u8
 }
 
-// By the fields' names, here and where records read it: a function of four bare numbers could take one tally for another.
+// The fields by name, and so where records read them, each by a read of its own: one for both would be no shorter than the fields.
 fn progress_from(steps: u64, values: u64, derivatives: u64, mark: u64) -> Progress
     ensures { result ≡ progress_of steps values derivatives (mark_from mark) }
 {
