@@ -52,9 +52,9 @@ module _ (base v : ℕ) (t : List ℕ) (i : ℕ) (h : i < length t) where
         value_is : value_from base v (get_or t i 0 ∷ drop (i + 1) t) ≡ value_from base (v * base + d) (drop (i + 1) t)
         value_is = rw (value_from, is)
 
-        pub number_on : d < base → {m w : ℕ} → m ≡ v * base → w ≡ m + d → m + d < 2 ^ 64 → number_from base w (drop (i + 1) t) ≡ n
+        pub number_on : d < base → {m w : ℕ} → m ≡ v * base → w ≡ m + d → number_from base w (drop (i + 1) t) ≡ n
         unfolding number_from
-        number_on l f g m = rw (g, f) (sym (rw (is, lt-ltb d base l, value_is)) ∙ turned)
+        number_on l f g = rw (g, f) (sym (rw (is, lt-ltb d base l, value_is)) ∙ turned)
 
         pub number_large_digit : base ≤ d → None ≡ n
         unfolding number_from

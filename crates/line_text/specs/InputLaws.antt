@@ -112,6 +112,11 @@ module _ {text : Request → List ℕ} (block : List ℕ) (i : ℕ) (h : i < len
       more : take (i + 1 - from) (drop from block) ≡ take (i - from) (drop from block) ++ (get_or block i 0 ∷ [])
       more = part_more block i h from f.past
 
+  -- a byte that ends no line leaves what waits as it was
+  pub none_more : (get_or block i 0 ≡ 10 → ⊥) → r.waiting ≡ s.waiting
+  unfolding reply_at
+  none_more n = let e = rw (ne_eqb (get_or block i 0) 10 n) at t.replies.ends in omega arith
+
   -- where the block is left
   module _ (longest from : ℕ) (line₀ out₀ : List ℕ) (s₀ : State) (k : stops_at text longest block i line out s ≡ stops_at text longest block from line₀ out₀ s₀) (o : length out' ≡ length out) where
     pub stop_on : length line' ≡ length line → r.waiting ≤ length out' - longest → stops_at text longest block (i + 1) line' out' r ≡ stops_at text longest block from line₀ out₀ s₀

@@ -25,19 +25,19 @@ wrong asked filled a why e q = record { within = omega arith; is = sym e; array 
 
 -- ---- the limit
 
-module _ (s : List ℕ) (m n : ℕ) (a : List Float) {f : Span} (j : Field s 0 f) {d : Option ℕ} (e : d ≡ decimal_of (take (f.to - f.from) (drop f.from s))) where
-  the_limit : with_limit m n a s ≡ limited m n a d (drop f.to s)
+module _ (s : List ℕ) (at m n : ℕ) (a : List Float) {f : Span} (j : Field s at f) {d : Option ℕ} (e : d ≡ decimal_of (take (f.to - f.from) (drop f.from s))) where
+  the_limit : with_limit m n a (drop at s) ≡ limited m n a d (drop f.to s)
   unfolding with_limit
   the_limit = rw (j.leaves, e, j.is)
 
-  pub limit_wrong : {r : Result Call Fault} → d ≡ None → r ≡ Err fault.Limit → ReadAs (with_limit m n a s) a a r
-  limit_wrong q x = rw x (wrong (with_limit m n a s) a a fault.Limit (the_limit ∙ rw q) refl)
+  pub limit_wrong : {r : Result Call Fault} → d ≡ None → r ≡ Err fault.Limit → ReadAs (with_limit m n a (drop at s)) a a r
+  limit_wrong q x = rw x (wrong (with_limit m n a (drop at s)) a a fault.Limit (the_limit ∙ rw q) refl)
 
   module _ {l : ℕ} (q : d ≡ Some l) {g : Span} (k : Field s f.to g) where
-    pub limit_trailing : g.from < g.to → ReadAs (with_limit m n a s) a a (Err fault.Trailing)
-    limit_trailing h = wrong (with_limit m n a s) a a fault.Trailing (the_limit ∙ rw (q, some_field k h)) refl
+    pub limit_trailing : g.from < g.to → ReadAs (with_limit m n a (drop at s)) a a (Err fault.Trailing)
+    limit_trailing h = wrong (with_limit m n a (drop at s)) a a fault.Trailing (the_limit ∙ rw (q, some_field k h)) refl
 
-    pub limit_read : {method : Method} {k : ℕ} → g.to ≤ g.from → n + 4 ≤ length a → method ≡ method_of m (get_or a n nan) (get_or a (n + 1) nan) → k ≡ start_count m → ReadAs (with_limit m n a s) a a (Ok (record { method = method; count = n; tolerances = tolerances_of (get_or a (n + k) nan) (get_or a (n + k + 1) nan); limit = l }))
+    pub limit_read : {method : Method} {k : ℕ} → g.to ≤ g.from → n + 4 ≤ length a → method ≡ method_of m (get_or a n nan) (get_or a (n + 1) nan) → k ≡ start_count m → ReadAs (with_limit m n a (drop at s)) a a (Ok (record { method = method; count = n; tolerances = tolerances_of (get_or a (n + k) nan) (get_or a (n + k + 1) nan); limit = l }))
     limit_read h b x y = record { within = omega arith; is = rw (x, y) (sym (the_limit ∙ rw (q, no_field k h))); array = refl }
 
 -- ---- the doubles
@@ -75,54 +75,54 @@ module _ (m n : ℕ) (a : List Float) (k : ℕ) (t : List ℕ) where
       go (Some l) = rw (coefficients, at_start, at_next, at_value, at_point)
       go None = refl
 
-module _ (s : List ℕ) (k : ℕ) (before a : List Float) {w : Option ℕ} {p : ℕ} (g : Filled s 0 k before a w) (q : w ≡ Some p) where
-  filled_to : EndsAt s 0 k p
+module _ (s : List ℕ) (at k : ℕ) (before a : List Float) {w : Option ℕ} {p : ℕ} (g : Filled s at k before a w) (q : w ≡ Some p) where
+  filled_to : EndsAt s at k p
   filled_to = (rw q at g).ends
 
-module _ (s : List ℕ) (m n : ℕ) (before a : List Float) {k : ℕ} (e : k ≡ start_count m) {w : Option ℕ} (g : Filled s 0 (n + k + 2) before a w) where
-  pub doubles_wrong : {r : Result Call Fault} → w ≡ None → r ≡ Err fault.Number → ReadAs (with_doubles m n s) (filled_with (doubles m n) s before) a r
+module _ (s : List ℕ) (at m n : ℕ) (before a : List Float) {k : ℕ} (e : k ≡ start_count m) {w : Option ℕ} (g : Filled s at (n + k + 2) before a w) where
+  pub doubles_wrong : {r : Result Call Fault} → w ≡ None → r ≡ Err fault.Number → ReadAs (with_doubles m n (drop at s)) (filled_with (doubles m n) (drop at s) before) a r
   unfolding with_doubles
-  doubles_wrong q x = rw x (wrong (with_doubles m n s) (filled_with (doubles m n) s before) a fault.Number (rw (← e, none)) (rw (← e) g.array))
+  doubles_wrong q x = rw x (wrong (with_doubles m n (drop at s)) (filled_with (doubles m n) (drop at s) before) a fault.Number (rw (← e, none)) (rw (← e) g.array))
     where
-      none : all_words (n + k + 2) s ≡ false
+      none : all_words (n + k + 2) (drop at s) ≡ false
       none = (rw q at g).ends
 
   module _ {p : ℕ} (q : w ≡ Some p) (h : n ≤ 40) (l : 44 ≤ length before) where
-    ends : EndsAt s 0 (n + k + 2) p
-    ends = filled_to s (n + k + 2) before a g q
+    ends : EndsAt s at (n + k + 2) p
+    ends = filled_to s at (n + k + 2) before a g q
 
-    front : take (n + k + 2) a ≡ doubles_of (n + k + 2) s
-    front = ap (λ (b : List Float). take (n + k + 2) b) g.array ∙ filled_front (n + k + 2) s before (let t = few_starts m in omega arith) ends.all
+    front : take (n + k + 2) a ≡ doubles_of (n + k + 2) (drop at s)
+    front = ap (λ (b : List Float). take (n + k + 2) b) g.array ∙ filled_front (n + k + 2) (drop at s) before (let t = few_starts m in omega arith) ends.all
 
-    pub doubles_read : {r : Result Call Fault} → ReadAs (with_limit m n a (take (length s - p) (drop p s))) a a r → ReadAs (with_doubles m n s) (filled_with (doubles m n) s before) a r
+    pub doubles_read : {r : Result Call Fault} → ReadAs (with_limit m n a (take (length s - p) (drop p s))) a a r → ReadAs (with_doubles m n (drop at s)) (filled_with (doubles m n) (drop at s) before) a r
     unfolding with_doubles
     doubles_read {r} x = record { within = x.within; is = x.is ∙ ap (with_limit m n a) (take_rest s p) ∙ same; array = rw (← e) g.array }
       where
-        same : with_limit m n a (drop p s) ≡ with_doubles m n s
+        same : with_limit m n a (drop p s) ≡ with_doubles m n (drop at s)
         same = first_ones m n a (n + k + 2) (drop p s) (rw e) ∙ rw (← e, ends.all, front, ends.leaves)
 
 -- ---- the count
 
-module _ (s : List ℕ) (m : ℕ) (a : List Float) {f : Span} (j : Field s 0 f) {d : Option ℕ} (e : d ≡ decimal_of (take (f.to - f.from) (drop f.from s))) where
-  the_count : with_count m s ≡ counted m d (drop f.to s)
+module _ (s : List ℕ) (at m : ℕ) (a : List Float) {f : Span} (j : Field s at f) {d : Option ℕ} (e : d ≡ decimal_of (take (f.to - f.from) (drop f.from s))) where
+  the_count : with_count m (drop at s) ≡ counted m d (drop f.to s)
   unfolding with_count
   the_count = rw (j.leaves, e, j.is)
 
-  the_doubles : filled_with (due m d) (drop f.to s) a ≡ count_fills m s a
+  the_doubles : filled_with (due m d) (drop f.to s) a ≡ count_fills m (drop at s) a
   unfolding count_fills
   the_doubles = rw (j.leaves, e, j.is)
 
-  no_count : counted m d (drop f.to s) ≡ Err fault.Count → due m d ≡ 0 → ReadAs (with_count m s) (count_fills m s a) a (Err fault.Count)
-  no_count q z = wrong (with_count m s) (count_fills m s a) a fault.Count (the_count ∙ q) (sym (rw z) ∙ the_doubles)
+  no_count : counted m d (drop f.to s) ≡ Err fault.Count → due m d ≡ 0 → ReadAs (with_count m (drop at s)) (count_fills m (drop at s) a) a (Err fault.Count)
+  no_count q z = wrong (with_count m (drop at s)) (count_fills m (drop at s) a) a fault.Count (the_count ∙ q) (sym (rw z) ∙ the_doubles)
 
-  pub count_wrong : {r : Result Call Fault} → d ≡ None → r ≡ Err fault.Count → ReadAs (with_count m s) (count_fills m s a) a r
+  pub count_wrong : {r : Result Call Fault} → d ≡ None → r ≡ Err fault.Count → ReadAs (with_count m (drop at s)) (count_fills m (drop at s) a) a r
   count_wrong q x = rw x (no_count (rw q) (rw q))
 
   module _ {n : ℕ} (q : d ≡ Some n) where
-    pub count_large : 40 < n → ReadAs (with_count m s) (count_fills m s a) a (Err fault.Count)
+    pub count_large : 40 < n → ReadAs (with_count m (drop at s)) (count_fills m (drop at s) a) a (Err fault.Count)
     count_large h = no_count (rw (q, lt-ltb 40 n h)) (rw (q, lt-ltb 40 n h))
 
-    pub count_read : n ≤ 40 → {b : List Float} {r : Result Call Fault} → ReadAs (with_doubles m n (take (length s - f.to) (drop f.to s))) (filled_with (doubles m n) (take (length s - f.to) (drop f.to s)) a) b r → ReadAs (with_count m s) (count_fills m s a) b r
+    pub count_read : n ≤ 40 → {b : List Float} {r : Result Call Fault} → ReadAs (with_doubles m n (take (length s - f.to) (drop f.to s))) (filled_with (doubles m n) (take (length s - f.to) (drop f.to s)) a) b r → ReadAs (with_count m (drop at s)) (count_fills m (drop at s) a) b r
     count_read h k =
         record {
           within = k.within;

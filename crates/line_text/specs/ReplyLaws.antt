@@ -5,9 +5,11 @@ use Rattle.std.proofs.Math.Bool.{and-true}
 use Rattle.std.proofs.Math.Seq.{take-length}
 use Rattle.std.proofs.Common.{Bor, arith, length-take-le, drop-cons, drop_of_length-le}
 use Rattle.line_text.specs.Calls.{Request, asked_of, request_of, asked_by, ReadAs}
+use Rattle.line_text.specs.Fields.{field_of}
 use Rattle.line_text.specs.Texts.{fault_text, replied, trimmed, reply_to, Put}
 use Rattle.line_text.specs.declared.call.Call.{Call}
 use Rattle.line_text.specs.declared.call.Fault.{Fault}
+use Rattle.line_text.specs.declared.call.Fault.TheVariants as fault
 
 -- ---- the carriage return
 
@@ -50,3 +52,8 @@ module _ (text : Request → List ℕ) (s t : List ℕ) {filled : List Float} (a
 
   pub wrong_put : (before : List ℕ) (at : ℕ) {now : List ℕ} {p : ℕ} {why : Fault} → r ≡ Err why → Put before at (fault_text why) now p → Put before at (reply_to text s) now p
   wrong_put before at e g = rw (← replies, e) g
+
+-- an empty line is no call, whatever a program replies to calls
+pub empty_put : (text : Request → List ℕ) (s : List ℕ) {n : ℕ} {before now : List ℕ} {at p : ℕ} → take n s ≡ trimmed s → n ≡ 0 → Put before at (fault_text fault.Empty) now p → Put before at (reply_to text s) now p
+unfolding reply_to asked_of field_of
+empty_put text s e f g = rw (← e, f) g

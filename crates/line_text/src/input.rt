@@ -64,7 +64,8 @@ pub fn fed<R: Replies>(
     let mut s = start;
     for (i, b) in block[from..].iter().enumerate() {
         s = taken::<R>(line, out, s, *b);
-        if out.len() - R::LONGEST < s.waiting {
+        // only a line's end has put a reply
+        if *b == b'\n' && out.len() - R::LONGEST < s.waiting {
             return Pause {
                 at: from + i + 1,
                 state: s,

@@ -4,7 +4,7 @@ ghost use Rattle.std.proofs.Common.{lit≤};
 ghost use Rattle.line_text.specs.Calls.{Request, request_of};
 ghost use Rattle.line_text.specs.Texts.{Put, trimmed, answer_for, reply_to, line_reply};
 
-use crate::call::{self, Call};
+use crate::call::{self, Call, Fault};
 use crate::text;
 
 // What a program replies to the calls that its lines are.
@@ -27,7 +27,7 @@ pub trait Replies {
     // What is not a call has a reply of up to 15 bytes.
     ghost holds_errors: { 15 ≤ LONGEST };
 
-    // A program's buffer has room for a reply.
+    // The buffer of `serve` has room for a reply.
     ghost fits: { LONGEST ≤ 65536 };
 }
 
@@ -65,6 +65,10 @@ fn put_reply<R: Replies>(s: &[u8], out: &mut [u8], at: usize) -> usize
     ensures upper_bound { result ≤ at + R.LONGEST }
 {
     let n = trimmed_length(s);
+    // of an empty line nothing is read, so no room for coefficients is made ready
+    if n == 0 {
+        return text::put_fault(out, at, Fault::Empty);
+    }
     let mut a = [0.0f64; 44];
     match call::read(&s[..n], &mut a) {
         Ok(c) => R::put_answer(out, at, &a, c),
@@ -83,4 +87,13 @@ pub fn put_line<R: Replies>(s: &[u8], is_long: bool, out: &mut [u8], at: usize) 
     } else {
         put_reply::<R>(s, out, at)
     }
+}
+
+// The line tool's reply to a line, by the definition's name: what its program says of itself is the definition's answer.
+pub fn put_answered(s: &[u8], is_long: bool, out: &mut [u8], at: usize) -> usize
+    requires { at + 156 ≤ length out.old }
+    ensures put { Put out.old at (line_reply answer_for is_long s.now) out.new result }
+    ensures upper_bound { result ≤ at + 156 }
+{
+    put_line::<Answered>(s, is_long, out, at)
 }

@@ -4,6 +4,7 @@ use Rattle.std.proofs.Common.{ap, sym, ◌∙◌, length-take-le}
 use Rattle.line_text.proofs.call.read_doubles.Reads as read-doubles-reads
 use Rattle.line_text.proofs.call.read.Reads as read-reads
 use Rattle.line_text.proofs.desk.serve.Reads as serve-reads
+use Rattle.line_text.proofs.desk.serve_at_once.Reads as serve-at-once-reads
 use Rattle.line_text.proofs.digits.digit.Reads as digit-reads
 use Rattle.line_text.proofs.digits.number_in.Reads as number-in-reads
 use Rattle.line_text.proofs.digits.decimal.Reads as decimal-reads
@@ -11,6 +12,7 @@ use Rattle.line_text.proofs.digits.word.Reads as word-reads
 use Rattle.line_text.proofs.fields.next.Reads as next-reads
 use Rattle.line_text.proofs.input.fed.Reads as fed-reads
 use Rattle.line_text.proofs.reply.put_line.Reads as put-line-reads
+use Rattle.line_text.proofs.reply.put_answered.Reads as put-answered-reads
 use Rattle.line_text.proofs.text.put.Reads as put_reads
 use Rattle.line_text.proofs.text.put_byte.Reads as put-byte-reads
 use Rattle.line_text.proofs.text.put_decimal.Reads as put-decimal-reads
@@ -79,10 +81,19 @@ put_line_once R A B C k a x y e f p q = p.0.ends ∙ sym q.0.ends
 pub put_line_out : (R A B C : _) → Last {B = List ℕ} (put-line-reads.Learnt R A B C) (λ k e. e.1.1.0.now)
 put_line_out R A B C k a x y e f p q = put_fixed p.0 q.0
 
+pub put_answered_once : One put-answered-reads.Learnt
+put_answered_once k a x y e f p q = p.0.ends ∙ sym q.0.ends
+
+pub put_answered_out : Last {B = List ℕ} put-answered-reads.Learnt (λ k e. e.1.1.0.now)
+put_answered_out k a x y e f p q = put_fixed p.0 q.0
+
 -- ---- desk: it answers nothing
 
 pub serve_once : (R A B C : _) → One (serve-reads.Learnt R A B C)
 serve_once R A B C k a x y e f p q = refl
+
+pub serve_at_once_once : (R A B C : _) → One (serve-at-once-reads.Learnt R A B C)
+serve_at_once_once R A B C k a x y e f p q = refl
 
 -- ---- text: where it ends, then the buffer `out`
 

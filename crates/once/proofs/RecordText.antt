@@ -4,6 +4,7 @@ use Rattle.std.proofs.Common.{sym, ◌∙◌}
 use Rattle.record_text.proofs.hex.put_bytes.Reads as put-bytes-reads
 use Rattle.record_text.proofs.record.put_refused.Reads as put-refused-reads
 use Rattle.record_text.proofs.record.put_first.Reads as put-first-reads
+use Rattle.record_text.proofs.reply.put_line.Reads as put-line-reads
 use Rattle.record_text.specs.declared.record.Shown.{Shown}
 use Rattle.line_text.specs.TextLaws.{put_fixed}
 use Rattle.once.specs.One.{One, Last}
@@ -29,3 +30,9 @@ put_first_once k a x y e f p q = shown_one x y (p.0.ends ∙ sym q.0.ends) (p.1.
 
 pub put_first_buffer : Last {B = List ℕ} put-first-reads.Learnt (λ k e. e.0.now)
 put_first_buffer k a x y e f p q = put_fixed p.0 q.0
+
+pub put_line_once : One put-line-reads.Learnt
+put_line_once k a x y e f p q = p.0.ends ∙ sym q.0.ends
+
+pub put_line_buffer : Last {B = List ℕ} put-line-reads.Learnt (λ k e. e.1.1.0.now)
+put_line_buffer k a x y e f p q = put_fixed p.0 q.0

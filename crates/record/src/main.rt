@@ -7,5 +7,5 @@
 use record_text::reply::Recorded;
 
 fn main(rt: HostRuntime) {
-    line_text::desk::serve::<Recorded>(rt.stdin(), rt.stdout());
+    line_text::desk::serve_at_once::<Recorded>(rt.stdin(), rt.stdout());
 }

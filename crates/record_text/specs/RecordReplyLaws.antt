@@ -16,7 +16,7 @@ use Rattle.line_text.specs.Calls.{request_of}
 use Rattle.line_text.specs.Texts.{Put}
 use Rattle.line_text.specs.TextLaws.{put_both}
 use Rattle.line_text.specs.declared.call.Call.{Call}
-use Rattle.record_text.specs.RecordTexts.{hex_bytes, refused_text, refusal_of, recorded_text, record_of, record_for}
+use Rattle.record_text.specs.RecordTexts.{hex_bytes, refused_text, refusal_of, recorded_text, record_of, record_for, record_reply, line_record}
 
 -- ---- a record written, or refused
 
@@ -93,3 +93,7 @@ module _ (a : List Float) (c : Call) (h : c.count ≤ length a) where
 
   pub searched_put : (at : ℕ) (out : List ℕ) {front : List Float} {o : Outcome} {now : List ℕ} {r : ℕ} → front ≡ take 16 a → o ≡ answer (take c.count a) c.method c.tolerances c.limit → Put out at (recorded_text (record { kind = newest; coefficients = front; count = c.count; method = c.method; tolerances = c.tolerances; limit = c.limit; outcome = o })) now r → Put out at (record_for (request_of c a)) now r
   searched_put at out {front} {o} e f g = rw (same_text (kept front o) (record_of (take c.count a) c.method c.tolerances c.limit) refl (same_row front o e f) f) at g
+
+-- the reply to a line that was kept whole
+pub reply_to_line : (t : List ℕ) → line_record false t ≡ record_reply t
+reply_to_line t = refl

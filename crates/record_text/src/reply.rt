@@ -2,11 +2,11 @@
 ghost use Rattle.std.specs.Prelude.{◌≡◌, ◌+◌, ◌≤◌, length};
 ghost use Rattle.std.proofs.Common.{lit≤};
 ghost use Rattle.line_text.specs.Texts.{Put};
-ghost use Rattle.record_text.specs.RecordTexts.{longest_reply, refusal_of, recorded_text, record_for};
+ghost use Rattle.record_text.specs.RecordTexts.{longest_reply, refusal_of, recorded_text, record_for, line_record};
 
 use crate::{hex, record};
 use line_text::call::Call;
-use line_text::reply::Replies;
+use line_text::reply::{self, Replies};
 use line_text::text;
 use numerical::Answer;
 use records::Record;
@@ -65,4 +65,13 @@ impl Replies for Recorded {
         };
         put_content(out, at, content)
     }
+}
+
+// The record tool's reply to a line, by the definition's name: what its program says of itself is the definition's record.
+pub fn put_line(s: &[u8], is_long: bool, out: &mut [u8], at: usize) -> usize
+    requires { at + longest_reply ≤ length out.old }
+    ensures put { Put out.old at (line_record is_long s.now) out.new result }
+    ensures upper_bound { result ≤ at + longest_reply }
+{
+    reply::put_line::<Recorded>(s, is_long, out, at)
 }
